@@ -1,0 +1,6 @@
+-- The limits of document 01, each named once. No law of the rules has one.
+use Prim.Native.Nat.{ℕ}
+
+-- Bucket 0 has no parent; 65,535 says so. A route entry that is not used holds it too.
+abbrev pub noBucket : ℕ
+noBucket = 65535

@@ -1,0 +1,119 @@
+-- Each rule by its cases, over N and the state. From here on no rule is unfolded again.
+use Prim.Native.Nat.{ℕ, suc, _+_, _-_, _≤_, _<_}
+use mathlib.Core.Path.{_≡_, refl, _∙_}
+use mathlib.Core.Bool.{Bool, true, false}
+use mathlib.Core.Logic.{⊎-elim}
+use native.Mathlib.Omega.{arith}
+use borrow.Author.Tests.{lt-ltb, le-ltb, le-leb, lt-leb, eq-eqb, ne-eqb}
+use Rattle.address.specs.Compare.{below}
+use Rattle.address.specs.declared.Image.{Image}
+use Rattle.address.specs.declared.Fate.the-variants.{Keep, SendOn, Unsound}
+use Rattle.address.specs.Rules.{«at», span, buckets, hash, address, level, keeps, onward, fate, wrapped, adjusted, child, newborn, grown}
+
+pub buckets-is : (N : ℕ) (s : Image) → buckets N s ≡ span N (s .level) + s .pointer
+unfolding buckets
+buckets-is N s = refl
+
+pub child-is : (N a k : ℕ) → child N a k ≡ a + span N k
+unfolding child
+child-is N a k = refl
+
+pub newborn-is : (N : ℕ) (s : Image) → newborn N s ≡ s .pointer + span N (s .level)
+unfolding newborn child
+newborn-is N s = refl
+
+pub grown-is : (N : ℕ) (s : Image) → grown N s ≡ wrapped N (s .level) (suc (s .pointer))
+unfolding grown
+grown-is N s = refl
+
+module _ (N : ℕ) (s : Image) where
+  -- address
+  pub address-low : (C : ℕ) → hash N (s .level) C < s .pointer → address N s C ≡ hash N (suc (s .level)) C
+  unfolding address
+  address-low C h = rw (lt-ltb _ _ h)
+
+  pub address-high : (C : ℕ) → s .pointer ≤ hash N (s .level) C → address N s C ≡ hash N (s .level) C
+  unfolding address
+  address-high C h = rw (le-ltb _ _ h)
+
+  -- the level of a bucket
+  pub level-split : (a : ℕ) → a < s .pointer → level N s a ≡ suc (s .level)
+  unfolding level
+  level-split a h = rw (lt-ltb _ _ h)
+
+  pub level-born : (a : ℕ) → span N (s .level) ≤ a → level N s a ≡ suc (s .level)
+  unfolding level
+  level-born a h = ⊎-elim (λ l. rw (lt-ltb a (s .pointer) l)) (λ l. rw (le-ltb a (s .pointer) l, le-leb _ _ h)) (below a (s .pointer))
+
+  pub level-rest : (a : ℕ) → s .pointer ≤ a → a < span N (s .level) → level N s a ≡ s .level
+  unfolding level
+  level-rest a h l = rw (le-ltb _ _ h, lt-leb _ _ l)
+
+  pub level-low : (a : ℕ) → s .level ≤ level N s a
+  level-low a = ⊎-elim (λ l. omega (arith, level-split a l))
+      (λ l. ⊎-elim (λ m. omega (arith, level-rest a l m)) (λ m. omega (arith, level-born a m)) (below a (span N (s .level))))
+      (below a (s .pointer))
+
+  pub level-high : (a : ℕ) → level N s a ≤ suc (s .level)
+  level-high a = ⊎-elim (λ l. omega (arith, level-split a l))
+      (λ l. ⊎-elim (λ m. omega (arith, level-rest a l m)) (λ m. omega (arith, level-born a m)) (below a (span N (s .level))))
+      (below a (s .pointer))
+
+module _ (N a j C : ℕ) where
+  pub keeps-yes : hash N j C ≡ a → keeps N a j C ≡ true
+  unfolding keeps
+  keeps-yes h = eq-eqb _ _ h
+
+  pub keeps-no : (hash N j C ≡ a → ⊥) → keeps N a j C ≡ false
+  unfolding keeps
+  keeps-no h = ne-eqb _ _ h
+
+  -- where a bucket sends a key on
+  pub onward-near : a < hash N (j - 1) C → hash N (j - 1) C < hash N j C → onward N a j C ≡ hash N (j - 1) C
+  unfolding onward
+  onward-near h l = rw (lt-ltb _ _ h, lt-ltb _ _ l)
+
+  pub onward-past : hash N (j - 1) C ≤ a → onward N a j C ≡ hash N j C
+  unfolding onward
+  onward-past h = rw (le-ltb _ _ h)
+
+  pub onward-level : hash N j C ≤ hash N (j - 1) C → onward N a j C ≡ hash N j C
+  unfolding onward
+  onward-level h = ⊎-elim (λ l. rw (lt-ltb a (hash N (j - 1) C) l, le-ltb _ _ h)) (λ l. rw (le-ltb a (hash N (j - 1) C) l)) (below a (hash N (j - 1) C))
+
+  -- the three fates
+  pub fate-unsound : fate N false a j C ≡ Unsound
+  unfolding fate
+  fate-unsound = refl
+
+  pub fate-keep : hash N j C ≡ a → fate N true a j C ≡ Keep
+  unfolding fate
+  fate-keep h = rw (keeps-yes h)
+
+  pub fate-send : (hash N j C ≡ a → ⊥) → fate N true a j C ≡ SendOn (onward N a j C)
+  unfolding fate
+  fate-send h = rw (keeps-no h)
+
+-- adjustment
+module _ (N : ℕ) (image : Image) (a j : ℕ) where
+  pub adjusted-kept : adjusted N image a j true ≡ image
+  unfolding adjusted
+  adjusted-kept = refl
+
+  pub adjusted-level : (kept : Bool) → j ≤ image .level → adjusted N image a j kept ≡ image
+  unfolding adjusted
+  adjusted-level true h = refl
+  adjusted-level false h = rw (le-ltb _ _ h)
+
+  pub adjusted-behind : image .level < j → adjusted N image a j false ≡ wrapped N (j - 1) (suc a)
+  unfolding adjusted
+  adjusted-behind h = rw (lt-ltb _ _ h)
+
+module _ (N k p : ℕ) where
+  pub wrapped-below : p < span N k → wrapped N k p ≡ «at» k p
+  unfolding wrapped
+  wrapped-below h = rw (lt-ltb _ _ h)
+
+  pub wrapped-full : span N k ≤ p → wrapped N k p ≡ «at» (suc k) 0
+  unfolding wrapped
+  wrapped-full h = rw (le-ltb _ _ h)
