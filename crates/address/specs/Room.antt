@@ -14,7 +14,7 @@ pub record Room (first level : ℕ) : Type 0 where
   pub few : first ≤ 16
   pub low : level ≤ 20
 
--- The same of an image, one level up, with a pointer no greater than a span.
+-- The same of an image, one level up, with a pointer no greater than the greatest span.
 pub record ImageRoom (first : ℕ) (image : Image) : Type 0 where
   pub levels : Room first (suc (image .level))
   pub near : image .pointer ≤ 16777216

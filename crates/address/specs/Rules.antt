@@ -8,6 +8,7 @@ pub mod Hash
 pub mod Parent
 pub mod Route
 pub mod Scan
+pub mod Steps
 pub mod Table
 use Prim.Native.Nat.{ℕ, zero, suc, _+_, _*_, _-_, _^_, _%_, _≤_, _<_, max}
 use mathlib.Core.Bool.{Bool, true, false, cond, _&&_, _||_}
@@ -80,7 +81,7 @@ imageAfter N file image C =
 pub child : ℕ → ℕ → ℕ → ℕ
 child N a k = a + span N k
 
--- Split: records of bucket n go to new bucket n + 2^i;
+-- Split: records of bucket n whose h_{i+1} is not n go to new bucket n + 2^i;
 pub newborn : ℕ → Image → ℕ
 newborn N s = child N (s .pointer) (s .level)
 
@@ -157,11 +158,11 @@ lastRound N file image = greatest (map (λ m. m .round) (scan N file image))
 pub highest : ℕ → Image → ℕ
 highest N file = greatest (map (level N file) (numbers 0 (buckets N file)))
 
--- The greatest 2^k not above b, from the k-th on; `most` only bounds the recursion.
+-- The greatest 2^k (N * 2^k) not above b, from the k-th on; `most` only bounds the recursion.
 pub topSpan : ℕ → ℕ → ℕ → ℕ → ℕ
 topSpan N b k zero = span N k
 topSpan N b k (suc most) = cond (leb (span N (suc k)) b) (topSpan N b (suc k) most) (span N k)
 
--- Parent: bucket b was born of b less the greatest power of two not above b; the first buckets have none.
+-- Parent: bucket b above 0 was born of b less the greatest power of two not above b. Bucket 0 (each of the first N) has none.
 pub parent : ℕ → ℕ → ℕ
 parent N b = cond (ltb b N) noBucket (b - topSpan N b 0 b)

@@ -22,7 +22,7 @@ pub enum Fate {
 // The answer "none" where a bucket's number is asked.
 pub const NO_BUCKET: u32 = 65535;
 
-// 2^level, for a file of `first` first buckets.
+// `first` buckets doubled `level` times: 2^level where a file starts with one bucket.
 pub fn span(first: u32, level: u32) -> u32
     requires { ⌜ Room first level ⌝ }
     ensures { λ r. ⌜ (r ≡ span first level) × (0 < r) × (r ≤ 16777216) ⌝ }

@@ -1,16 +1,21 @@
 -- The image after a key was sent by a client that is not ahead: well formed, never ahead, and, where the first bucket did not keep the key, of more buckets than before.
 -- A first bucket a of level j that does not keep the key is below 2^(j-1), and the client then believes in exactly 2^(j-1) + a + 1 buckets.
 use Prim.Native.Nat.{ℕ, suc, _+_, _-_, _≤_, _<_}
-use mathlib.Core.Path.{_≡_, ap, _∙_}
+use mathlib.Core.Path.{_≡_, refl, ap, _∙_}
 use mathlib.Core.Logic.{⊎-elim}
 use native.Mathlib.Omega.{arith}
 use Rattle.address.specs.Compare.{below, same}
 use Rattle.address.specs.declared.Image.{Image}
-use Rattle.address.specs.Rules.{Formed, NotAhead, span, buckets, hash, address, level, wrapped, imageAfter}
+use Rattle.address.specs.Rules.{Formed, NotAhead, span, buckets, hash, address, level, keeps, wrapped, adjusted, imageAfter}
 use Rattle.address.specs.Rules.Hash.{span-suc, span-mono}
 use Rattle.address.specs.Rules.Cases.{buckets-is, level-split, level-low, keeps-yes, keeps-no, adjusted-kept, adjusted-behind}
 use Rattle.address.specs.Rules.Grow.{wrapped-formed, wrapped-buckets}
 use Rattle.address.specs.Rules.Route.{first-exists, first-own, first-level, left-level, left-low, place}
+
+pub imageAfter-is : (N : ℕ) (file image : Image) (C : ℕ) → imageAfter N file image C
+    ≡ adjusted N image (address N image C) (level N file (address N image C)) (keeps N (address N image C) (level N file (address N image C)) C)
+unfolding imageAfter
+imageAfter-is N file image C = refl
 
 module _ (N : ℕ) (positive : 0 < N) (file : Image) (formed : Formed N file)
     (image : Image) (imageFormed : Formed N image) (behind : NotAhead N file image) (C : ℕ) where

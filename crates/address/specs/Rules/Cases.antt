@@ -4,6 +4,7 @@ use mathlib.Core.Path.{_≡_, refl, _∙_}
 use mathlib.Core.Bool.{Bool, true, false}
 use mathlib.Core.Logic.{⊎-elim}
 use native.Mathlib.Omega.{arith}
+use lib.Dec.{eqb}
 use borrow.Author.Tests.{lt-ltb, le-ltb, le-leb, lt-leb, eq-eqb, ne-eqb}
 use Rattle.address.specs.Compare.{below}
 use Rattle.address.specs.declared.Image.{Image}
@@ -60,6 +61,10 @@ module _ (N : ℕ) (s : Image) where
       (below a (s .pointer))
 
 module _ (N a j C : ℕ) where
+  pub keeps-is : keeps N a j C ≡ eqb (hash N j C) a
+  unfolding keeps
+  keeps-is = refl
+
   pub keeps-yes : hash N j C ≡ a → keeps N a j C ≡ true
   unfolding keeps
   keeps-yes h = eq-eqb _ _ h

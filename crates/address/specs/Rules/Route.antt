@@ -8,26 +8,21 @@ use mathlib.Core.Logic.{_↔_, _⊎_, inl, inr, ⊎-elim}
 use native.Mathlib.Omega.{arith}
 use lib.ListN.{length}
 use Rattle.address.specs.Compare.{below, same}
-use Rattle.address.specs.Limits.{noBucket}
 use Rattle.address.specs.declared.Image.{Image}
 use Rattle.address.specs.Rules.{Formed, NotAhead, span, buckets, hash, address, level, onward, fate, forwards, following, routeFrom, route}
 use Rattle.address.specs.Rules.Hash.{span-suc, span-pos, span-mono, hash-le, hash-lt, hash-hash, hash-suc}
 use Rattle.address.specs.Rules.Cases.{buckets-is, level-split, level-born, level-rest, level-low, level-high, onward-near, onward-past, onward-level, fate-keep, fate-send}
 use Rattle.address.specs.Rules.Address.{address-exists, address-own}
 
--- The last bucket of a route.
+-- The last bucket of a route that starts at a.
 pub last : ℕ → List ℕ → ℕ
 last a [] = a
 last a (b ∷ rest) = last b rest
 
--- Each bucket of a route is higher than the one before.
+-- Each bucket of a route that starts at a is higher than the one before.
 abbrev pub Above : ℕ → List ℕ → Type 0
 Above a [] = Unit {0}
 Above a (b ∷ rest) = (a < b) × Above b rest
-
-abbrev pub Rising : List ℕ → Type 0
-Rising [] = Unit {0}
-Rising (a ∷ rest) = Above a rest
 
 -- Each bucket of a route exists.
 abbrev pub Below : ℕ → List ℕ → Type 0
@@ -40,23 +35,32 @@ pub data Reaches (N : ℕ) (file : Image) (C : ℕ) : ℕ → ℕ → Type 0 whe
   sent : {a b h : ℕ} → a < buckets N file → (hash N (level N file a) C ≡ a → ⊥) → onward N a (level N file a) C ≡ b → a < b
       → Reaches N file C b h → Reaches N file C a (suc h)
 
--- What a route owes: it ends at the key's own bucket, has at most two forwards, each to a higher bucket, and only buckets that exist.
-pub record Delivered (N : ℕ) (file : Image) (C : ℕ) (way : List ℕ) : Type 0 where
-  pub ends : last noBucket way ≡ address N file C
-  pub short : forwards way ≤ 2
-  pub rises : Rising way
-  pub exist : Below (buckets N file) way
-
--- What the route from a bucket on owes, after h forwards.
-pub record Passed (N : ℕ) (file : Image) (C most a h : ℕ) : Type 0 where
+-- What a route of h forwards owes: it starts at its first bucket, ends at the key's own bucket, each forward goes to a higher bucket, and all of them exist.
+pub record Delivered (N : ℕ) (file : Image) (C first h : ℕ) (way : List ℕ) : Type 0 where
   pub rest : List ℕ
-  pub is : routeFrom N file C most a ≡ a ∷ rest
+  pub is : way ≡ first ∷ rest
   pub long : length rest ≡ h
-  pub ends : last a rest ≡ address N file C
-  pub rises : Above a rest
-  pub exist : Below (buckets N file) (a ∷ rest)
+  pub ends : last first rest ≡ address N file C
+  pub rises : Above first rest
+  pub exist : Below (buckets N file) (first ∷ rest)
 
--- A route by its cases.
+-- A route by its steps.
+pub route-is : (N : ℕ) (file image : Image) (C : ℕ) → route N file image C ≡ routeFrom N file C (buckets N file) (address N image C)
+unfolding route
+route-is N file image C = refl
+
+pub forwards-is : (way : List ℕ) → forwards way ≡ length way - 1
+unfolding forwards
+forwards-is way = refl
+
+pub last-one : (a : ℕ) → last a [] ≡ a
+unfolding last
+last-one a = refl
+
+pub last-more : (a b : ℕ) (rest : List ℕ) → last a (b ∷ rest) ≡ last b rest
+unfolding last
+last-more a b rest = refl
+
 module _ (N : ℕ) (file : Image) (C most a : ℕ) where
   pub route-kept : hash N (level N file a) C ≡ a → routeFrom N file C (suc most) a ≡ a ∷ []
   unfolding routeFrom following
@@ -214,7 +218,7 @@ module _ (N : ℕ) (positive : 0 < N) (file : Image) (formed : Formed N file) wh
   reaches-room (sent exists leaves next up rest) = omega (arith, reaches-room rest)
 
   -- so the route from there has h forwards, and ends at the key's own bucket
-  pub reaches-route : {C a h : ℕ} → Reaches N file C a h → (most : ℕ) → h < most → Passed N file C most a h
+  pub reaches-route : {C a h : ℕ} → Reaches N file C a h → (most : ℕ) → h < most → Delivered N file C a h (routeFrom N file C most a)
   unfolding last
   reaches-route r zero small = absurd (omega arith)
   reaches-route {C} {a} (kept exists e) (suc most) small = record {
@@ -251,12 +255,26 @@ module _ (N : ℕ) (positive : 0 < N) (file : Image) (formed : Formed N file) wh
     pub reaches : (h : ℕ) × (h ≤ 2) × Reaches N file C (address N image C) h
     reaches = reaches-from C (address N image C) (level N image (address N image C)) first-exists first-level first-own
 
-    pub delivered : Delivered N file C (route N file image C)
-    unfolding route last forwards
+    -- so a key reaches its own bucket in at most two forwards, each to a higher-numbered bucket
+    pub delivered : (h : ℕ) × (h ≤ 2) × Delivered N file C (address N image C) h (route N file image C)
+    unfolding route
     delivered =
         let (h, short, r) = reaches in
-        let p = reaches-route r (buckets N file) (omega (arith, reaches-room r)) in
-        rw (p .is) record { ends = p .ends; short = omega (arith, p .long); rises = p .rises; exist = p .exist }
+        (h, short, reaches-route r (buckets N file) (omega (arith, reaches-room r)))
+
+    pub forwards-short : forwards (route N file image C) ≤ 2
+    unfolding forwards
+    forwards-short =
+        let (h, short, d) = delivered in
+        rw (d .is) (omega (arith, d .long))
+
+    -- a first bucket that keeps the key is the whole route
+    pub route-right : hash N (level N file (address N image C)) C ≡ address N image C → route N file image C ≡ address N image C ∷ []
+    unfolding route
+    route-right e = ap (λ (most : ℕ). routeFrom N file C most (address N image C)) some ∙ route-kept N file C (buckets N file - 1) (address N image C) e
+      where
+        some : buckets N file ≡ suc (buckets N file - 1)
+        some = omega (arith, first-exists)
 
     -- the first bucket is wrong exactly if it does not keep the key
     pub first-right : address N image C ≡ address N file C ↔ hash N (level N file (address N image C)) C ≡ address N image C

@@ -27,6 +27,19 @@ pub times : ℕ → List ℕ → ℕ
 times x [] = 0
 times x (y ∷ rest) = bit (eqb x y) + times x rest
 
+-- times by its steps
+pub times-none : (x : ℕ) → times x [] ≡ 0
+unfolding times
+times-none x = refl
+
+pub times-here : (x y : ℕ) (rest : List ℕ) → x ≡ y → times x (y ∷ rest) ≡ suc (times x rest)
+unfolding times bit
+times-here x y rest e = rw (eq-eqb x y e) (omega arith)
+
+pub times-there : (x y : ℕ) (rest : List ℕ) → (x ≡ y → ⊥) → times x (y ∷ rest) ≡ times x rest
+unfolding times bit
+times-there x y rest e = rw (ne-eqb x y e) (omega arith)
+
 bit-yes : (x y : ℕ) → x ≡ y → bit (eqb x y) ≡ 1
 unfolding bit
 bit-yes x y e = rw (eq-eqb x y e)

@@ -1,0 +1,73 @@
+-- `bucket::place` writes mark, key and payload one behind the other, which is the slot's bytes, and then the count.
+use Prim.Native.Nat.{ℕ, _+_}
+use mathlib.Core.Path.{refl, ap, _∙_}
+use mathlib.Core.List.{List}
+use native.Mathlib.Omega.{arith}
+use Rattle.layout.specs.Bytes.{leBytes, edit}
+use Rattle.bucket.specs.Region.{slotMark, slotAt}
+use Rattle.bucket.specs.Region.Write.{put-slot}
+use borrow.Author.Needs.{needs}
+use Rattle.bucket.proofs.place.Statement.{statement}
+use Rattle.bucket.proofs.place.Tie as tie
+
+mul-at : tie.Need-mul-at
+mul-at c = search needs
+
+add-at : tie.Need-add-at
+add-at c = search needs
+
+slice-aggregate-put : tie.Need-slice-aggregate-put
+slice-aggregate-put c = search needs
+
+put-requires : tie.Need-put-requires
+put-requires c κs = search needs
+
+add-put8 : tie.Need-add-put8
+add-put8 c = search needs
+
+put8-requires : tie.Need-put8-requires
+put8-requires c κs = search needs
+
+add-put : tie.Need-add-put
+add-put c = search needs
+
+put-requires-2 : tie.Need-put-requires-2
+put-requires-2 c κs = search needs
+
+add-held : tie.Need-add-held
+add-held c = search needs
+
+put2-requires : tie.Need-put2-requires
+put2-requires c κs = search needs
+
+same-length : tie.Need-same-length
+same-length c = search needs
+
+returns : tie.Need-returns
+returns c =
+    let a = c .before .before .before .before .before .before .before .before .before .before .before .before .before .before .before .before .before .before .before .args in (
+      refl,
+      c .before .before .put22 .ensures
+          ∙ ap (edit 4 (leBytes 2 (a .count + 1)))
+          (c .before .before .before .before .before .before .put2 .ensures
+          ∙ ap (edit (slotAt (a .count) + 10) (a .payload .now))
+          (c .before .before .before .before .before .before .before .before .before .before .put8 .ensures ∙ ap (edit (slotAt (a .count) + 2) (leBytes 8 (a .key))) (c .before .before .before .before .before .before .before .before .before .before .before .before .before .before .put .ensures))
+          ∙ put-slot (slotAt (a .count)) (a .key) (a .payload .now) (a .region .now) (c .before .before .before .before .before .before .before .before .before .before .before .before .before .before .before .before .before .before .before .pre .2) (c .before .before .before .before .before .before .before .before .before .before .before .before .before .before .before .before .before .before .before .pre .0)),
+    )
+
+pub place-spec : {M : Type 1} → statement M
+place-spec =
+    tie.close
+    (tie.spec
+    mul-at
+    add-at
+    slice-aggregate-put
+    put-requires
+    add-put8
+    put8-requires
+    add-put
+    put-requires-2
+    add-held
+    put2-requires
+    same-length
+    returns)

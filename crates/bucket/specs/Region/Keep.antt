@@ -1,0 +1,105 @@
+-- What searching, placing and dividing keep: a key is found exactly where it is held, a fresh ride that belongs leaves a bucket sound,
+-- and a division of a sound bucket gives two sound ones that together hold the same rides.
+use Prim.Native.Nat.{ℕ, zero, suc, _+_, _≤_, _<_}
+use mathlib.Core.Path.{_≡_, refl, sym, ap, ap₂, _∙_}
+use mathlib.Core.Bool.{Bool, true, false, cond, not, _&&_, true≢false}
+use mathlib.Core.List.{List, [], _∷_, _++_, List·Memᴰ, List·Memᴰ·head, List·Memᴰ·tail, List·Memᴰ·not-nil, List·Memᴰ·cases-cons}
+use mathlib.Core.Logic.{_⊎_, inl, inr, ⊎-elim, by-cases}
+use native.Mathlib.Decide.{ℕ-discrete}
+use native.Mathlib.Nat.{add-zero, zero-add}
+use native.Mathlib.Omega.{arith}
+use borrow.Author.Tests.{eqb-true, eq-eqb, ne-eqb}
+use lib.Dec.{eqb}
+use lib.ListN.{length, getD, take, length-append}
+use lib.Seq.{getD-take}
+use Rattle.address.specs.Rules.{keeps}
+use Rattle.layout.specs.Bytes.{Bytes, firstFrom}
+use Rattle.layout.specs.Bytes.Tests.{and-left, and-right, and-both, first-before, first-same}
+use Rattle.bucket.specs.Region.{Ride, Whole, slotAt, countOf, keyAt, rideAt, ridesFrom, ridesOf, keysOf, every, distinct, soundWith, slotOf, encode, kept}
+use Rattle.bucket.specs.Region.Rides.{AllWhole, whole-append, keys-append, every-append, distinct-append, kept-whole, kept-passes, kept-distinct, kept-lengths, kept-in, kept-ind}
+use Rattle.bucket.specs.Region.Sound.{Parts, sound-count, sound-whole, encode-sound}
+
+-- the keys of the slots, one by one
+key-at : (region : List ℕ) (k c i : ℕ) → i < c → getD (keysOf (ridesFrom region k c)) i 0 ≡ keyAt region (k + i)
+unfolding ridesFrom keysOf rideAt
+key-at region k zero i h = absurd (omega arith)
+key-at region k (suc c) zero h = ap (keyAt region) (sym (add-zero k))
+key-at region k (suc c) (suc i) h = key-at region (suc k) c i (omega arith) ∙ ap (keyAt region) moved
+  where
+    moved : suc k + i ≡ k + suc i
+    moved = omega arith
+
+-- a key found among the gathered keys is found in its slot
+pub find-slot : (region keys : List ℕ) (key : ℕ) → take (countOf region) keys ≡ keysOf (ridesOf region)
+    → firstFrom (λ k. eqb (getD keys k 0) key) (countOf region) 0 ≡ slotOf region key
+unfolding slotOf ridesOf
+find-slot region keys key e = first-same (λ k. eqb (getD keys k 0) key) (λ k. eqb (keyAt region k) key) (countOf region) 0
+    (λ k low high. ap (λ (x : ℕ). eqb x key) (same k (omega arith)))
+  where
+    same : (k : ℕ) → k < countOf region → getD keys k 0 ≡ keyAt region k
+    same k h = sym (getD-take (countOf region) keys k 0 h) ∙ ap (λ (l : List ℕ). getD l k 0) e
+        ∙ key-at region 0 (countOf region) k h ∙ ap (keyAt region) (zero-add k)
+
+-- a key that no slot holds is fresh
+fresh-from : (region : List ℕ) (key k c : ℕ) → ((i : ℕ) → k ≤ i → i < k + c → eqb (keyAt region i) key ≡ false)
+    → every (λ other. not (eqb other key)) (keysOf (ridesFrom region k c)) ≡ true
+unfolding ridesFrom keysOf every rideAt
+fresh-from region key k zero h = refl
+fresh-from region key k (suc c) h = and-both (not (eqb (keyAt region k) key)) _ (ap not (h k (omega arith) (omega arith)))
+    (fresh-from region key (suc k) c (λ i low high. h i (omega arith) (omega arith)))
+
+pub fresh : (region : List ℕ) (key : ℕ) → slotOf region key ≡ countOf region → every (λ other. not (eqb other key)) (keysOf (ridesOf region)) ≡ true
+unfolding slotOf ridesOf
+fresh region key e = fresh-from region key 0 (countOf region)
+    (λ i low high. first-before (λ k. eqb (keyAt region k) key) (countOf region) 0 i low (omega (arith, e)))
+
+-- a fresh ride that belongs, placed in a sound bucket that has room, leaves it sound
+pub placed-sound : (S j : ℕ) (own : ℕ → Bool) (region : List ℕ) → Bytes region → length region ≡ slotAt S → S < 65536 → Parts S j own region
+    → (ride : Ride) → Whole ride → own (ride .key) ≡ true → slotOf region (ride .key) ≡ countOf region → countOf region < S
+    → soundWith S j own (encode S j (ridesOf region ++ (ride ∷ []))) ≡ true
+placed-sound S j own region bytes long small sound ride whole belongs new room =
+    encode-sound S j (ridesOf region ++ (ride ∷ [])) (whole-append (ridesOf region) ride all whole)
+    (omega (arith, length-append (ridesOf region) (ride ∷ []), sound-count S j own region bytes long sound)) small own
+    ∙ and-both _ _
+    (ap (every own) (keys-append (ridesOf region) ride) ∙ every-append own (keysOf (ridesOf region)) (ride .key) ∙ and-both _ _ (sound .belong) belongs)
+    (ap distinct (keys-append (ridesOf region) ride) ∙ distinct-append (keysOf (ridesOf region)) (ride .key) (sound .single) (fresh region (ride .key) new))
+  where
+    all : AllWhole (ridesOf region)
+    all = sound-whole S j own region bytes long sound
+
+-- what a division gives a bucket is sound there
+pub divided-sound : (S j : ℕ) (own : ℕ → Bool) (rides : List Ride) → AllWhole rides → length rides ≤ S → S < 65536 → distinct (keysOf rides) ≡ true
+    → soundWith S j own (encode S j (kept own rides)) ≡ true
+divided-sound S j own rides whole few small single =
+    encode-sound S j (kept own rides) (kept-whole own rides whole) (omega (arith, kept-lengths own rides)) small own
+    ∙ and-both _ _ (kept-passes own rides) (kept-distinct own rides single)
+
+-- two tests that agree on all the keys keep the same rides
+pub kept-agree : (all f g : ℕ → Bool) (rides : List Ride) → every all (keysOf rides) ≡ true → ((key : ℕ) → all key ≡ true → f key ≡ g key) → kept f rides ≡ kept g rides
+unfolding keysOf every kept
+kept-agree all f g [] h same = refl
+kept-agree all f g (ride ∷ rides) h same =
+    ap₂ (λ (b : Bool) (l : List Ride). cond b (ride ∷ l) l) (same (ride .key) (and-left _ _ h))
+    (kept-agree all f g rides (and-right (all (ride .key)) (every all (keysOf rides)) h) same)
+
+-- what is kept was there, and what was there and passes the test is kept
+pub kept-member : (test : ℕ → Bool) (rides : List Ride) (ride : Ride) → List·Memᴰ ride (kept test rides) → List·Memᴰ ride rides
+unfolding kept
+kept-member test [] ride = λ m. m
+kept-member test (first ∷ rides) ride =
+    kept-ind test first rides (λ list. List·Memᴰ ride list → List·Memᴰ ride (first ∷ rides))
+    (λ e m. ⊎-elim List·Memᴰ·head (λ rest. List·Memᴰ·tail (kept-member test rides ride rest)) (List·Memᴰ·cases-cons m))
+    (λ e m. List·Memᴰ·tail (kept-member test rides ride m))
+
+pub member-kept : (test : ℕ → Bool) (rides : List Ride) (ride : Ride) → List·Memᴰ ride rides → test (ride .key) ≡ true → List·Memᴰ ride (kept test rides)
+member-kept test [] ride m h = absurd (List·Memᴰ·not-nil m)
+member-kept test (first ∷ rides) ride m h = ⊎-elim here
+    (λ rest. kept-ind test first rides (λ list. List·Memᴰ ride list)
+    (λ e. List·Memᴰ·tail (member-kept test rides ride rest h)) (λ e. member-kept test rides ride rest h))
+    (List·Memᴰ·cases-cons m)
+  where
+    here : ride ≡ first → List·Memᴰ ride (kept test (first ∷ rides))
+    here e = rw (kept-in test first rides same) (List·Memᴰ·head e)
+      where
+        same : test (first .key) ≡ true
+        same = ap (λ (r : Ride). test (r .key)) (sym e) ∙ h

@@ -1,0 +1,99 @@
+-- Numbers of several bytes: read after written, written after read, and read past a write. Each goes byte by byte.
+use Prim.Native.Nat.{ℕ, zero, suc, _+_, _*_, _-_, _/_, _%_, _^_, _≤_, _<_}
+use mathlib.Core.Path.{_≡_, refl, sym, ap, ap₂, _∙_}
+use mathlib.Core.List.{List, [], _∷_, _++_}
+use native.Mathlib.Nat.{add-zero, zero-add, add-suc, suc-add, add-assoc, pow-suc}
+use native.Mathlib.Numerals.{add-one, add-two, add-three, add-four, add-five, add-six, add-seven}
+use native.Mathlib.Omega.{arith}
+use lib.ListN.{length, getD, take, drop}
+use lib.Seq.{drop-cons, getD-drop, getD-append-add}
+use Rattle.layout.specs.Bytes.{Bytes, leAt, leBytes, part}
+use Rattle.layout.specs.Bytes.Edit.{part-at}
+
+pub length-leBytes : (n x : ℕ) → length (leBytes n x) ≡ n
+unfolding leBytes
+length-leBytes zero x = refl
+length-leBytes (suc n) x = ap suc (length-leBytes n (x / 256))
+
+pub leBytes-bytes : (n x : ℕ) → Bytes (leBytes n x)
+unfolding leBytes
+leBytes-bytes zero x k = omega arith
+leBytes-bytes (suc n) x zero = omega arith
+leBytes-bytes (suc n) x (suc k) = leBytes-bytes n (x / 256) k
+
+-- the same bytes are the same number
+pub le-same : (n : ℕ) (xs ys : List ℕ) (p q : ℕ) → ((k : ℕ) → k < n → getD xs (p + k) 0 ≡ getD ys (q + k) 0) → leAt n xs p ≡ leAt n ys q
+unfolding leAt
+le-same zero xs ys p q same = refl
+le-same (suc n) xs ys p q same = omega (arith, first, le-same n xs ys (suc p) (suc q) next)
+  where
+    first : getD xs p 0 ≡ getD ys q 0
+    first = rw (add-zero p, add-zero q) at (same 0 (omega arith))
+
+    next : (k : ℕ) → k < n → getD xs (suc p + k) 0 ≡ getD ys (suc q + k) 0
+    next k h = rw (add-suc p k, add-suc q k, ← (suc-add p k), ← (suc-add q k)) at (same (suc k) (omega arith))
+
+-- the number behind the first byte
+le-behind : (n y : ℕ) (xs : List ℕ) (at : ℕ) → leAt n (y ∷ xs) (suc at) ≡ leAt n xs at
+le-behind n y xs at = le-same n (y ∷ xs) xs (suc at) at (λ k h. ap (λ (i : ℕ). getD (y ∷ xs) i 0) (suc-add at k))
+
+-- n bytes hold a number below 256^n
+pub le-lt : (n : ℕ) (xs : List ℕ) (at : ℕ) → Bytes xs → leAt n xs at < 256 ^ n
+unfolding leAt
+le-lt zero xs at b = omega arith
+le-lt (suc n) xs at b = omega (arith, le-lt n xs (suc at) b, b at, pow-suc 256 n)
+
+-- a number that fits is read as it was written
+pub le-back : (n x : ℕ) → x < 256 ^ n → (rest : List ℕ) → leAt n (leBytes n x ++ rest) 0 ≡ x
+unfolding leAt leBytes
+le-back zero x h rest = omega arith
+le-back (suc n) x h rest = omega (
+  arith,
+  le-behind n (x % 256) (leBytes n (x / 256) ++ rest) 0,
+  le-back n (x / 256) (omega (arith, pow-suc 256 n)) rest,
+)
+
+-- what was read is written as it stood
+pub le-again : (n : ℕ) (xs : List ℕ) (at : ℕ) → Bytes xs → at + n ≤ length xs → leBytes n (leAt n xs at) ≡ part at n xs
+unfolding leBytes leAt part
+le-again zero xs at b fits = refl
+le-again (suc n) xs at b fits = rw (drop-cons xs at 0 (omega arith)) (ap₂ _∷_ low (ap (leBytes n) high ∙ le-again n xs (suc at) b (omega arith)))
+  where
+    low : (getD xs at 0 + 256 * leAt n xs (suc at)) % 256 ≡ getD xs at 0
+    low = omega (arith, b at)
+
+    high : (getD xs at 0 + 256 * leAt n xs (suc at)) / 256 ≡ leAt n xs (suc at)
+    high = omega (arith, b at)
+
+-- the sums that compile to one load
+pub le-two : (xs : List ℕ) (at : ℕ) → getD xs at 0 + getD xs (at + 1) 0 * 256 ≡ leAt 2 xs at
+unfolding leAt
+le-two xs at = rw (add-one at) (omega arith)
+
+pub le-eight : (xs : List ℕ) (at : ℕ)
+    → getD xs at 0 + getD xs (at + 1) 0 * 256 + getD xs (at + 2) 0 * 65536 + getD xs (at + 3) 0 * 16777216 + getD xs (at + 4) 0 * 4294967296
+    + getD xs (at + 5) 0 * 1099511627776 + getD xs (at + 6) 0 * 281474976710656 + getD xs (at + 7) 0 * 72057594037927936 ≡ leAt 8 xs at
+unfolding leAt
+le-eight xs at = rw (add-one at, add-two at, add-three at, add-four at, add-five at, add-six at, add-seven at) (omega arith)
+
+-- the bytes that one store writes
+pub leBytes-two : (x : ℕ) → leBytes 2 x ≡ x % 256 ∷ x / 256 % 256 ∷ []
+unfolding leBytes
+leBytes-two x = refl
+
+pub leBytes-eight : (x : ℕ)
+    → leBytes 8 x ≡ x % 256 ∷ x / 256 % 256 ∷ x / 256 / 256 % 256 ∷ x / 256 / 256 / 256 % 256 ∷ x / 256 / 256 / 256 / 256 % 256
+    ∷ x / 256 / 256 / 256 / 256 / 256 % 256 ∷ x / 256 / 256 / 256 / 256 / 256 / 256 % 256 ∷ x / 256 / 256 / 256 / 256 / 256 / 256 / 256 % 256 ∷ []
+unfolding leBytes
+leBytes-eight x = refl
+
+-- a number behind a place, and one that stands behind a list
+pub le-drop : (n : ℕ) (xs : List ℕ) (s at : ℕ) → leAt n (drop s xs) at ≡ leAt n xs (s + at)
+le-drop n xs s at = le-same n (drop s xs) xs at (s + at) (λ k h. getD-drop s xs (at + k) 0 ∙ ap (λ (i : ℕ). getD xs i 0) (sym (add-assoc s at k)))
+
+pub le-seam : (n : ℕ) (ps xs : List ℕ) (at : ℕ) → length ps ≡ at → leAt n (ps ++ xs) at ≡ leAt n xs 0
+le-seam n ps xs at e = sym (le-same n xs (ps ++ xs) 0 at (λ k h. ap (λ (i : ℕ). getD xs i 0) (zero-add k) ∙ sym (ap (λ (i : ℕ). getD (ps ++ xs) (i + k) 0) (sym e) ∙ getD-append-add ps xs k 0)))
+
+-- a number in a part
+pub le-part : (n : ℕ) (xs : List ℕ) (s m at : ℕ) → at + n ≤ m → leAt n (part s m xs) at ≡ leAt n xs (s + at)
+le-part n xs s m at h = le-same n (part s m xs) xs at (s + at) (λ k l. part-at s m xs (at + k) (omega arith) ∙ ap (λ (i : ℕ). getD xs i 0) (sym (add-assoc s at k)))

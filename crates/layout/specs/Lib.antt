@@ -1,0 +1,2 @@
+-- The definitions of bytes that the contracts of `layout` cite, and their laws.
+pub mod Bytes

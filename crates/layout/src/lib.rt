@@ -1,0 +1,114 @@
+// Bytes in lent memory: little-endian numbers, two-byte marks, zeros and copies.
+ghost use mathlib.Core.Path.{_≡_};
+ghost use Prim.Native.Nat.{_+_, _≤_, _<_};
+ghost use lib.ListN.{length, replicate};
+ghost use Rattle.layout.specs.Bytes.{leAt, leBytes, marked, allZero, edit};
+
+// A byte as a wide number.
+pub fn wide(x: u8) -> u64
+    ensures { λ r. ⌜ (r ≡ x) × (r < 256) ⌝ }
+{
+    x as u64
+}
+
+// The number of two bytes at a place.
+pub fn read2(bytes: &[u8], at: usize) -> u64
+    requires { ⌜ at + 2 ≤ length (now bytes) ⌝ }
+    ensures { λ r. ⌜ (r ≡ leAt 2 (now (bytes .entry)) at) × (r < 65536) ⌝ }
+{
+    wide(bytes[at]) + wide(bytes[at + 1]) * 256
+}
+
+// The number of eight bytes at a place.
+pub fn read8(bytes: &[u8], at: usize) -> u64
+    requires { ⌜ at + 8 ≤ length (now bytes) ⌝ }
+    ensures { λ r. ⌜ r ≡ leAt 8 (now (bytes .entry)) at ⌝ }
+{
+    wide(bytes[at])
+        + wide(bytes[at + 1]) * 256
+        + wide(bytes[at + 2]) * 65536
+        + wide(bytes[at + 3]) * 16777216
+        + wide(bytes[at + 4]) * 4294967296
+        + wide(bytes[at + 5]) * 1099511627776
+        + wide(bytes[at + 6]) * 281474976710656
+        + wide(bytes[at + 7]) * 72057594037927936
+}
+
+// Whether a mark stands at a place.
+pub fn has_mark(bytes: &[u8], at: usize, mark: &[u8; 2]) -> bool
+    requires { ⌜ at + 2 ≤ length (now bytes) ⌝ }
+    ensures { λ r. ⌜ r ≡ marked (now (bytes .entry)) at (now (mark .entry)) ⌝ }
+{
+    (bytes[at] == mark[0]) & (bytes[at + 1] == mark[1])
+}
+
+// Whether all bytes are zero. No early exit, so that many bytes are tested at a time.
+pub fn is_zero(bytes: &[u8]) -> bool
+    ensures { λ r. ⌜ r ≡ allZero (now (bytes .entry)) ⌝ }
+{
+    let mut clean = true;
+    let mut k = 0;
+    while k < bytes.len() {
+        clean = clean & (bytes[k] == 0);
+        k = k + 1;
+    }
+    clean
+}
+
+// Copies a source over the bytes from a place on.
+pub fn put(bytes: &mut [u8], at: usize, source: &[u8])
+    requires { ⌜ at + length (now source) ≤ length (now bytes) ⌝ }
+    ensures { λ _. ⌜ now (bytes .exit) ≡ edit at (now (source .entry)) (now (bytes .entry)) ⌝ }
+{
+    let mut k = 0;
+    while k < source.len() {
+        bytes[at + k] = source[k];
+        k = k + 1;
+    }
+}
+
+// Writes a number of two bytes at a place.
+pub fn put2(bytes: &mut [u8], at: usize, x: u64)
+    requires { ⌜ at + 2 ≤ length (now bytes) ⌝ }
+    ensures { λ _. ⌜ now (bytes .exit) ≡ edit at (leBytes 2 x) (now (bytes .entry)) ⌝ }
+{
+    let x1 = x / 256;
+    let source = [(x % 256) as u8, (x1 % 256) as u8];
+    put(bytes, at, &source);
+}
+
+// Writes a number of eight bytes at a place.
+pub fn put8(bytes: &mut [u8], at: usize, x: u64)
+    requires { ⌜ at + 8 ≤ length (now bytes) ⌝ }
+    ensures { λ _. ⌜ now (bytes .exit) ≡ edit at (leBytes 8 x) (now (bytes .entry)) ⌝ }
+{
+    let x1 = x / 256;
+    let x2 = x1 / 256;
+    let x3 = x2 / 256;
+    let x4 = x3 / 256;
+    let x5 = x4 / 256;
+    let x6 = x5 / 256;
+    let x7 = x6 / 256;
+    let source = [
+        (x % 256) as u8,
+        (x1 % 256) as u8,
+        (x2 % 256) as u8,
+        (x3 % 256) as u8,
+        (x4 % 256) as u8,
+        (x5 % 256) as u8,
+        (x6 % 256) as u8,
+        (x7 % 256) as u8,
+    ];
+    put(bytes, at, &source);
+}
+
+// Makes all bytes zero.
+pub fn clear(bytes: &mut [u8])
+    ensures { λ _. ⌜ now (bytes .exit) ≡ replicate (length (now (bytes .entry))) 0 ⌝ }
+{
+    let mut k = 0;
+    while k < bytes.len() {
+        bytes[k] = 0;
+        k = k + 1;
+    }
+}
