@@ -1,2 +1,3 @@
 -- The definitions of bytes that the contracts of `layout` cite, and their laws.
 pub mod Bytes
+pub mod Replies

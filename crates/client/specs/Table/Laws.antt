@@ -1,0 +1,102 @@
+-- The table's refusals by their cases, and what each function of the crate shows, over plain values.
+use Prim.Native.Nat.{ℕ, _+_, _*_, _/_, _%_, _≤_, _<_}
+use mathlib.Core.Path.{_≡_, refl, sym, ap, ap₂, _∙_}
+use mathlib.Core.Bool.{Bool, true, false, cond, not, _&&_, true≢false}
+use mathlib.Core.List.{List, [], _∷_, _++_}
+use mathlib.Core.Logic.{by-cases}
+use native.Mathlib.Decide.{decLt}
+use native.Mathlib.Omega.{arith}
+use borrow.Author.Tests.{lt-ltb, le-ltb, le-leb, lt-leb, ltb-true, leb-true, eqb-true, eq-eqb, ne-eqb}
+use lib.Dec.{leb, ltb, eqb}
+use lib.ListN.{length}
+use Rattle.address.specs.Limits.{firstBuckets, mostLevel}
+use Rattle.address.specs.declared.Image.{Image}
+use Rattle.address.specs.Rules.{«at», Formed, span}
+use Rattle.layout.specs.Bytes.{Bytes, byteAt, leAt, leBytes, marked, allBelow, edit, part}
+use Rattle.layout.specs.Bytes.Tests.{and-left, and-right, and-both}
+use Rattle.layout.specs.Bytes.Edit.{edit-next}
+use Rattle.layout.specs.Bytes.Numbers.{leBytes-two}
+use Rattle.layout.specs.Replies.{refuse, reply, reply-none, reply-here, reply-past}
+use Rattle.client.specs.Table.{clientMark, lengthSound, exists, imageOf, recordFormed, imageFormed, recordSound, tableRefusals, imageBytes, withImage, Joined, join}
+
+module _ (table : List ℕ) (client : ℕ) where
+  -- 2, 3, or neither
+  pub refused-length : lengthSound table ≡ false → reply (tableRefusals table client) 0 ≡ 2
+  unfolding tableRefusals
+  refused-length h = reply-here 2 _ _ 0 (ap not h)
+
+  pub refused-client : lengthSound table ≡ true → length table / 8 ≤ client → reply (tableRefusals table client) 0 ≡ 3
+  unfolding tableRefusals exists
+  refused-client h l = reply-past 2 _ _ 0 (ap not h) ∙ reply-here 3 _ _ 0 (ap not (le-ltb client (length table / 8) l))
+
+  pub not-refused : lengthSound table ≡ true → client < length table / 8 → reply (tableRefusals table client) 0 ≡ 0
+  unfolding tableRefusals exists
+  not-refused h l = reply-past 2 _ _ 0 (ap not h) ∙ reply-past 3 _ _ 0 (ap not (lt-ltb client (length table / 8) l)) ∙ reply-none 0
+
+  pub length-flag : (flag : Bool) → flag ≡ (ltb 0 (length table) && leb (length table) 2048 && eqb (length table % 8) 0) → flag ≡ lengthSound table
+  unfolding lengthSound
+  length-flag flag e = e
+
+  -- a table and a client that are not refused have the client's record
+  pub record-fits : reply (tableRefusals table client) 0 ≡ 0 → 8 * client + 8 ≤ length table
+  record-fits h = go (lengthSound table) refl
+    where
+      go : (flag : Bool) → lengthSound table ≡ flag → 8 * client + 8 ≤ length table
+      go false e = absurd (omega (arith, refused-length e))
+      go true e = by-cases (decLt client (length table / 8)) (λ l. omega arith) (λ l. absurd (omega (arith, refused-client e (omega arith))))
+
+  pub record-judged : (mark : Bool) → mark ≡ marked table (8 * client) clientMark
+      → (mark && eqb (byteAt table (8 * client + 3)) 0 && eqb (byteAt table (8 * client + 6)) 0 && eqb (byteAt table (8 * client + 7)) 0) ≡ recordFormed table client
+  unfolding recordFormed
+  record-judged mark e = rw e
+
+  pub image-read : (l p : ℕ) → l ≡ byteAt table (8 * client + 2) → p ≡ leAt 2 table (8 * client + 4) → «at» l p ≡ imageOf table client
+  unfolding imageOf
+  image-read l p el ep = λ i. record { level = el i; pointer = ep i }
+
+  pub record-both : (formed ranged : Bool) (image : Image) → formed ≡ recordFormed table client → ranged ≡ imageFormed image → image ≡ imageOf table client
+      → (formed && ranged) ≡ recordSound table client
+  unfolding recordSound
+  record-both formed ranged image ef er ei = ap₂ _&&_ ef (er ∙ ap imageFormed ei)
+
+-- an image in range, by its cases
+pub image-high : (image : Image) → mostLevel < image .level → imageFormed image ≡ false
+unfolding imageFormed
+image-high image h = rw (lt-leb (image .level) mostLevel h)
+
+pub image-low : (image : Image) → image .level ≤ mostLevel → imageFormed image ≡ ltb (image .pointer) (span firstBuckets (image .level))
+unfolding imageFormed
+image-low image h = rw (le-leb (image .level) mostLevel h)
+
+-- a sound record's image
+pub record-image : (table : List ℕ) (client : ℕ) → recordSound table client ≡ true → (imageOf table client .level ≤ mostLevel) × Formed firstBuckets (imageOf table client)
+unfolding recordSound imageFormed
+record-image table client h =
+    let formed = and-right (recordFormed table client) (leb (imageOf table client .level) mostLevel && ltb (imageOf table client .pointer) (span firstBuckets (imageOf table client .level))) h in (
+      leb-true (imageOf table client .level) mostLevel (and-left _ _ formed),
+      ltb-true (imageOf table client .pointer) (span firstBuckets (imageOf table client .level)) (and-right (leb (imageOf table client .level) mostLevel) _ formed),
+    )
+
+-- an image is written as its mark and its figures
+pub image-written : (table : List ℕ) (client : ℕ) (image : Image) → 8 * client + 8 ≤ length table
+    → edit (8 * client + 2) (image .level ∷ 0 ∷ image .pointer % 256 ∷ image .pointer / 256 % 256 ∷ 0 ∷ 0 ∷ []) (edit (8 * client) clientMark table)
+    ≡ withImage table client image
+unfolding withImage imageBytes
+image-written table client image fits = edit-next (8 * client) clientMark _ table (omega arith) ∙ ap (λ (l : List ℕ). edit (8 * client) l table) bytes
+  where
+    bytes : clientMark ++ (image .level ∷ 0 ∷ image .pointer % 256 ∷ image .pointer / 256 % 256 ∷ 0 ∷ 0 ∷ [])
+        ≡ clientMark ++ (image .level ∷ 0 ∷ []) ++ leBytes 2 (image .pointer) ++ (0 ∷ 0 ∷ [])
+    bytes = rw (leBytes-two (image .pointer))
+
+-- joining: refused, or done; and no second outcome fits
+pub join-refused : (table : List ℕ) (client r : ℕ) → r ≡ reply (tableRefusals table client) 0 → (r ≡ 0 → ⊥) → record { answer = r; table = table } ≡ join table client
+unfolding join
+join-refused table client r e some = λ i. record { answer = e i; table = (sym (ap (λ (b : Bool). cond b (withImage table client («at» 0 0)) table) (ne-eqb (reply (tableRefusals table client) 0) 0 (λ z. some (e ∙ z))))) i }
+
+pub join-done : (table after : List ℕ) (client r : ℕ) → r ≡ reply (tableRefusals table client) 0 → r ≡ 0 → after ≡ withImage table client («at» 0 0)
+    → record { answer = 0; table = after } ≡ join table client
+unfolding join
+join-done table after client r e none w = λ i. record { answer = (sym none ∙ e) i; table = (w ∙ sym (ap (λ (b : Bool). cond b (withImage table client («at» 0 0)) table) (eq-eqb (reply (tableRefusals table client) 0) 0 (sym e ∙ none)))) i }
+
+pub join-single : (table : List ℕ) (client : ℕ) (o p : Joined) → o ≡ join table client → p ≡ join table client → o ≡ p
+join-single table client o p eo ep = eo ∙ sym ep
