@@ -22,6 +22,12 @@ pub enum Fate {
 // The answer "none" where a bucket's number is asked.
 pub const NO_BUCKET: u32 = 65535;
 
+// The number of first buckets of every file.
+pub const FIRST_BUCKETS: u32 = 1;
+
+// The highest level that a client's image or a file may have.
+pub const MOST_LEVEL: u32 = 12;
+
 // `first` buckets doubled `level` times: 2^level where a file starts with one bucket.
 pub fn span(first: u32, level: u32) -> u32
     requires { ⌜ Room first level ⌝ }

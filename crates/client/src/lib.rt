@@ -6,12 +6,6 @@ ghost use lib.ListN.{length};
 ghost use Rattle.layout.specs.Replies.{reply};
 ghost use Rattle.client.specs.Table.{Joined, imageOf, recordFormed, imageFormed, recordSound, tableRefusals, withImage, join};
 
-// The number of first buckets of every file.
-pub const FIRST: u32 = 1;
-
-// The highest level that a client's image may have.
-pub const MOST_LEVEL: u32 = 12;
-
 // A client's record, judged.
 pub struct Client {
     pub sound: bool,
@@ -50,10 +44,10 @@ fn record_formed(table: &[u8], client: usize) -> bool
 fn image_formed(image: Image) -> bool
     ensures { λ r. ⌜ r ≡ imageFormed image ⌝ }
 {
-    if MOST_LEVEL < image.level {
+    if address::MOST_LEVEL < image.level {
         return false;
     }
-    image.pointer < address::span(FIRST, image.level)
+    image.pointer < address::span(address::FIRST_BUCKETS, image.level)
 }
 
 // A client's record, read and judged.

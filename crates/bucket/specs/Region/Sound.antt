@@ -223,3 +223,7 @@ bucket-judged N positive s formed S a exists region =
     same key = by-cases (ℕ-discrete (address N s key) a)
         (λ e. eq-eqb (address N s key) a e ∙ sym (keeps-yes N a (level N s a) key (own key .0 e)))
         (λ e. ne-eqb (address N s key) a e ∙ sym (keeps-no N a (level N s a) key (λ h. e (own key .1 h))))
+
+pub bucket-few : (N : ℕ) (s : Image) (S a : ℕ) (region : List ℕ) → bucketSound N s S a region ≡ true → countOf region ≤ S
+unfolding bucketSound
+bucket-few N s S a region h = parts S (level N s a) (λ key. eqb (address N s key) a) region h .few

@@ -1,0 +1,47 @@
+-- `file::figures_fit` tests the ranges first, so that the length they ask for does not wrap.
+use mathlib.Core.Path.{_≡_, refl, sym, ap, _∙_}
+use native.Mathlib.Omega.{arith}
+use borrow.Author.Tests.{not-true, not-false}
+use Prim.Native.Nat.{_≤_}
+use Rattle.file.specs.File.Judge.{ranges, figures-out, figures-in}
+use Rattle.file.specs.File.Region.{place-room}
+use Rattle.file.proofs.figures_fit.Statement.{statement}
+use Rattle.file.proofs.figures_fit.Tie as tie
+
+returns : tie.Need-returns
+returns c =
+    let a = c .before .args in
+    sym (figures-out (a .long) (a .capacity) (a .slots) (a .most) (not-true _ (c .if1 .taken)))
+
+mul-result : tie.Need-mul-result
+mul-result c =
+    let a = c .before .args in
+    let r = ranges (a .long) (a .capacity) (a .slots) (a .most) (not-false _ (c .if1 .left)) in
+    omega (arith, r)
+
+add-result : tie.Need-add-result
+add-result c =
+    let a = c .before .args in
+    let r = ranges (a .long) (a .capacity) (a .slots) (a .most) (not-false _ (c .if1 .left)) in
+    omega (arith, r)
+
+mul-result-2 : tie.Need-mul-result-2
+mul-result-2 c =
+    let a = c .before .args in
+    let r = ranges (a .long) (a .capacity) (a .slots) (a .most) (not-false _ (c .if1 .left)) in
+    omega (arith, place-room (a .slots) (a .most) (r .1) (r .5))
+
+add-result-2 : tie.Need-add-result-2
+add-result-2 c =
+    let a = c .before .args in
+    let r = ranges (a .long) (a .capacity) (a .slots) (a .most) (not-false _ (c .if1 .left)) in
+    omega (arith, place-room (a .slots) (a .most) (r .1) (r .5))
+
+returns-2 : tie.Need-returns-2
+returns-2 c =
+    let a = c .before .args in
+    sym (figures-in (a .long) (a .capacity) (a .slots) (a .most) (not-false _ (c .if1 .left)))
+
+pub figures-fit-spec : {M : Type 1} → statement M
+figures-fit-spec =
+    tie.close (tie.spec returns mul-result add-result mul-result-2 add-result-2 returns-2)

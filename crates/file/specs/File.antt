@@ -1,0 +1,113 @@
+-- A file as document 01 lays it out: a header of 16 bytes, then M regions of 8 + 24·S bytes. When it is sound, and what create, check and view give.
+pub mod Judge
+pub mod Region
+pub mod Create
+use Prim.Native.Nat.{ℕ, _+_, _*_, _-_}
+use mathlib.Core.Path.{_≡_}
+use mathlib.Core.Bool.{Bool, true, false, cond, not, _&&_}
+use mathlib.Core.List.{List, [], _∷_, _++_}
+use lib.Dec.{leb, ltb, eqb}
+use lib.ListN.{length, replicate}
+use Rattle.address.specs.Limits.{firstBuckets, noBucket, mostBuckets, mostSlots}
+use Rattle.address.specs.declared.Image.{Image}
+use Rattle.address.specs.Rules.{«at», span, buckets}
+use Rattle.layout.specs.Bytes.{byteAt, leAt, leBytes, marked, allBelow, allZero, firstFrom, edit, part}
+use Rattle.layout.specs.Replies.{refuse, reply}
+use Rattle.file.specs.declared.Header.{Header}
+use Rattle.bucket.specs.Region.{slotAt, countOf, bucketSound, encode}
+
+-- The mark 4C 46 of a file.
+abbrev pub fileMark : List ℕ
+fileMark = 76 ∷ 70 ∷ []
+
+-- File header, 16 bytes: byte 2 level i; byte 3 capacity b; bytes 4-5 split pointer n; bytes 6-7 most buckets M; byte 8 slots per bucket S.
+abbrev pub capacityOf : List ℕ → ℕ
+capacityOf file = byteAt file 3
+
+abbrev pub mostOf : List ℕ → ℕ
+mostOf file = leAt 2 file 6
+
+abbrev pub slotsOf : List ℕ → ℕ
+slotsOf file = byteAt file 8
+
+pub stateOf : List ℕ → Image
+stateOf file = «at» (byteAt file 2) (leAt 2 file 4)
+
+-- Numbers: S 1 to 64, b 1 to S, M 1 to 4,096, file length exactly 16 + M·(8 + 24·S).
+abbrev pub fileLength : ℕ → ℕ → ℕ
+fileLength S M = 16 + M * (8 + 24 * S)
+
+pub figuresFit : ℕ → ℕ → ℕ → ℕ → Bool
+figuresFit long b S M = (leb 1 S && leb S mostSlots && leb 1 b && leb b S && leb 1 M && leb M mostBuckets) && eqb long (fileLength S M)
+
+-- The file has 2^i + n buckets.
+pub bucketsOf : List ℕ → ℕ
+bucketsOf file = buckets firstBuckets (stateOf file)
+
+-- n < 2^i and 2^i + n ≤ M.
+pub stateFits : Image → ℕ → Bool
+stateFits state M = ltb (state .pointer) (span firstBuckets (state .level)) && leb (buckets firstBuckets state) M
+
+-- A header is sound if marks, zeros, ranges and length hold, n < 2^i and 2^i + n ≤ M.
+pub headerSound : List ℕ → Bool
+headerSound file =
+    leb 16 (length file)
+    && (marked file 0 fileMark && allZero (part 9 7 file))
+    && figuresFit (length file) (capacityOf file) (slotsOf file) (mostOf file)
+    && stateFits (stateOf file) (mostOf file)
+
+-- The header that the code reads and judges once in a call: the figures of a sound header, else none.
+pub headerOf : List ℕ → Header
+headerOf file =
+    cond (headerSound file) (record { sound = true; state = stateOf file; capacity = capacityOf file; slots = slotsOf file; most = mostOf file })
+    (record { sound = false; state = «at» 0 0; capacity = 0; slots = 0; most = 0 })
+
+-- Then M regions of 8 + 24·S bytes.
+abbrev pub startOf : ℕ → ℕ → ℕ
+startOf S a = 16 + a * (8 + 24 * S)
+
+pub regionOf : List ℕ → ℕ → List ℕ
+regionOf file a = part (startOf (slotsOf file) a) (slotAt (slotsOf file)) file
+
+-- A bucket of the file; a region past the last bucket is sound if all its bytes are zero; a file is sound if header and all M regions are.
+pub bucketSoundIn : List ℕ → ℕ → Bool
+bucketSoundIn file a = bucketSound firstBuckets (stateOf file) (slotsOf file) a (regionOf file a)
+
+pub regionSound : List ℕ → ℕ → Bool
+regionSound file a = cond (ltb a (bucketsOf file)) (bucketSoundIn file a) (allZero (regionOf file a))
+
+pub fileSound : List ℕ → Bool
+fileSound file = headerSound file && allBelow (regionSound file) (mostOf file)
+
+-- Check: 5, 7 (lowest region; with other replies the number is 65,535).
+pub record Checked : Type 0 where
+  pub answer : ℕ
+  pub bucket : ℕ
+
+pub lowestUnsound : List ℕ → ℕ
+lowestUnsound file = firstFrom (λ a. not (regionSound file a)) (mostOf file) 0
+
+pub check : List ℕ → Checked
+check file =
+    cond (not (headerSound file)) (record { answer = 5; bucket = noBucket })
+    (cond (ltb (lowestUnsound file) (mostOf file)) (record { answer = 7; bucket = lowestUnsound file }) (record { answer = 0; bucket = noBucket }))
+
+-- The bucket view: the used slots; empty if the header is unsound, the number is too high or the bucket is unsound.
+pub view : List ℕ → ℕ → List ℕ
+view file a =
+    cond (headerSound file && ltb a (bucketsOf file) && bucketSoundIn file a) (part (startOf (slotsOf file) a + 8) (24 * countOf (regionOf file a)) file) []
+
+-- Create takes b, S and M and writes the sound file in state (0, 0) without records.
+pub headerBytes : Image → ℕ → ℕ → ℕ → List ℕ
+headerBytes state b S M = fileMark ++ (state .level ∷ b ∷ []) ++ leBytes 2 (state .pointer) ++ leBytes 2 M ++ (S ∷ []) ++ replicate 7 0
+
+pub created : ℕ → ℕ → ℕ → List ℕ
+created b S M = headerBytes («at» 0 0) b S M ++ (encode S 0 [] ++ replicate ((M - 1) * (8 + 24 * S)) 0)
+
+-- 13: figures out of range or length not theirs.
+pub record Created : Type 0 where
+  pub answer : ℕ
+  pub file : List ℕ
+
+pub create : List ℕ → ℕ → ℕ → ℕ → Created
+create file b S M = cond (figuresFit (length file) b S M) (record { answer = 0; file = created b S M }) (record { answer = 13; file = file })

@@ -1,0 +1,177 @@
+-- Where the regions lie: within the file, one behind the other; what is written to one leaves the header and every other as it was.
+use Prim.Native.Nat.{ℕ, suc, _+_, _*_, _-_, _≤_, _<_}
+use mathlib.Core.Path.{_≡_, refl, sym, ap, ap₂, _∙_}
+use mathlib.Core.Bool.{Bool, true, false, not}
+use mathlib.Core.List.{List, []}
+use native.Mathlib.Nat.{mul-le-mul, mul-le-mul-right}
+use native.Mathlib.Omega.{arith}
+use borrow.Author.Tests.{lt-ltb, le-ltb}
+use lib.ListN.{length, take, drop}
+use Rattle.address.specs.Limits.{firstBuckets, noBucket}
+use Rattle.address.specs.declared.Image.{Image}
+use Rattle.address.specs.Room.{Room}
+use Rattle.address.specs.Rules.{buckets, level, keeps}
+use Rattle.address.specs.Rules.Cases.{level-high}
+use Rattle.layout.specs.Bytes.{leAt, allZero, firstFrom, part}
+use Rattle.layout.specs.Bytes.Tests.{first-here, first-later, first-none}
+use Rattle.layout.specs.Bytes.Edit.{part-is, length-part}
+use Rattle.layout.specs.Bytes.Numbers.{le-part}
+use Rattle.bucket.specs.Region.{slotAt, countOf, soundWith}
+use Rattle.bucket.specs.Region.Sound.{bucket-judged, bucket-few}
+use Rattle.file.specs.declared.Header.{Header}
+use Rattle.file.specs.File.{mostOf, slotsOf, stateOf, startOf, fileLength, bucketsOf, regionOf, headerSound, bucketSoundIn, regionSound, Checked, lowestUnsound, check, view}
+use Rattle.file.specs.File.Judge.{Ranges, Known}
+
+-- the machine's room for a place
+pub place-room : (S a : ℕ) → S ≤ 64 → a ≤ 4096 → a * (8 + 24 * S) ≤ 6324224
+place-room S a few low = mul-le-mul {n₂ = 4096} {m₂ = 1544} low (omega arith)
+
+-- a region of the file is within it
+pub region-within : (S M a : ℕ) → a < M → startOf S a + slotAt S ≤ fileLength S M
+region-within S M a h = omega (arith, mul-le-mul-right (8 + 24 * S) h)
+
+-- a lower region ends where a higher one starts, or before
+pub region-apart : (S a b : ℕ) → a < b → startOf S a + slotAt S ≤ startOf S b
+region-apart S a b h = omega (arith, mul-le-mul-right (8 + 24 * S) h)
+
+-- a region, cut out of the file
+pub region-is : (file : List ℕ) (a : ℕ) → regionOf file a ≡ part (startOf (slotsOf file) a) (slotAt (slotsOf file)) file
+unfolding regionOf
+region-is file a = refl
+
+module _ (file : List ℕ) (S a at e : ℕ) (eS : S ≡ slotsOf file) (ea : at ≡ startOf S a) (ee : e ≡ at + (8 + 24 * S)) where
+  pub region-cut : take (e - at) (drop at file) ≡ regionOf file a
+  region-cut = ap₂ (λ (n k : ℕ). take n (drop k file)) wide place ∙ sym (part-is (startOf (slotsOf file) a) (slotAt (slotsOf file)) file) ∙ sym (region-is file a)
+    where
+      place : at ≡ startOf (slotsOf file) a
+      place = ea ∙ ap (λ (n : ℕ). startOf n a) eS
+
+      wide : e - at ≡ slotAt (slotsOf file)
+      wide = omega arith
+
+pub length-region : (file : List ℕ) (a : ℕ) → startOf (slotsOf file) a + slotAt (slotsOf file) ≤ length file → length (regionOf file a) ≡ slotAt (slotsOf file)
+length-region file a fits = ap length (region-is file a) ∙ length-part (startOf (slotsOf file) a) (slotAt (slotsOf file)) file fits
+
+-- a region of a file with a sound header is within it
+pub region-fits : (file : List ℕ) → Ranges file → (a : ℕ) → a < mostOf file → startOf (slotsOf file) a + slotAt (slotsOf file) ≤ length file
+region-fits file seen a h = omega (arith, region-within (slotsOf file) (mostOf file) a h, seen .figured .whole)
+
+-- ---- a region of a file whose header is known
+
+module _ (file : List ℕ) (header : Header) (seen : Known file header) where
+  pub buckets-known : (n : ℕ) → n ≡ buckets firstBuckets (header .state) → n ≡ bucketsOf file
+  unfolding bucketsOf
+  buckets-known n e = e ∙ ap (buckets firstBuckets) (seen .state)
+
+  module _ (a at : ℕ) (ea : at ≡ startOf (header .slots) a) where
+    pub known-cut : take (at + (8 + 24 * header .slots) - at) (drop at file) ≡ regionOf file a
+    known-cut = region-cut file (header .slots) a at (at + (8 + 24 * header .slots)) (seen .slots) ea refl
+
+    pub known-fits : a < mostOf file → at + (8 + 24 * header .slots) ≤ length file
+    known-fits h = omega (arith, region-fits file (seen .ranges) a h, ap (λ (S : ℕ). startOf S a) (seen .slots), seen .slots)
+
+    pub known-long : a < mostOf file → length (take (at + (8 + 24 * header .slots) - at) (drop at file)) ≡ slotAt (header .slots)
+    known-long h = ap length known-cut ∙ length-region file a (region-fits file (seen .ranges) a h) ∙ ap slotAt (sym (seen .slots))
+
+  module _ (a l : ℕ) (exists : a < bucketsOf file) (el : l ≡ level firstBuckets (header .state) a) where
+    pub known-level : Room firstBuckets l
+    known-level = record { some = omega arith; few = omega arith; low = omega (arith, level-high firstBuckets (header .state) a, seen .room .levels .low) }
+
+    pub known-judged : soundWith (header .slots) l (keeps firstBuckets a l) (regionOf file a) ≡ bucketSoundIn file a
+    unfolding bucketSoundIn bucketsOf
+    known-judged =
+        ap₂ (λ (S k : ℕ). soundWith S k (keeps firstBuckets a k) (regionOf file a)) (seen .slots) (el ∙ ap (λ (s : Image). level firstBuckets s a) (seen .state))
+        ∙ sym (bucket-judged firstBuckets (omega arith) (stateOf file) (seen .ranges .formed) (slotsOf file) a exists (regionOf file a))
+
+-- a region by its cases
+pub region-bucket : (file : List ℕ) (a : ℕ) → a < bucketsOf file → regionSound file a ≡ bucketSoundIn file a
+unfolding regionSound
+region-bucket file a h = rw (lt-ltb a (bucketsOf file) h)
+
+pub region-past : (file : List ℕ) (a : ℕ) → bucketsOf file ≤ a → regionSound file a ≡ allZero (regionOf file a)
+unfolding regionSound
+region-past file a h = rw (le-ltb a (bucketsOf file) h)
+
+-- ---- the lowest unsound region
+
+module _ (file : List ℕ) where
+  abbrev pub Lower : ℕ → Type 0
+  Lower k = firstFrom (λ a. not (regionSound file a)) (mostOf file - k) k ≡ lowestUnsound file
+
+  pub lower-none : Lower 0
+  unfolding lowestUnsound
+  lower-none = ap (λ (n : ℕ). firstFrom (λ a. not (regionSound file a)) n 0) whole
+    where
+      whole : mostOf file - 0 ≡ mostOf file
+      whole = omega arith
+
+  pub lower-here : (k : ℕ) → Lower k → k < mostOf file → regionSound file k ≡ false → k ≡ lowestUnsound file
+  lower-here k so h bad = sym (first-here (λ a. not (regionSound file a)) (mostOf file) k h (ap not bad)) ∙ so
+
+  pub lower-more : (k : ℕ) → Lower k → k < mostOf file → regionSound file k ≡ true → Lower (k + 1)
+  lower-more k so h good = sym (first-later (λ a. not (regionSound file a)) (mostOf file) k h (ap not good)) ∙ so
+
+  pub lower-end : (k : ℕ) → Lower k → mostOf file ≤ k → k ≡ lowestUnsound file
+  lower-end k so h = sym (first-none (λ a. not (regionSound file a)) (mostOf file) k h) ∙ so
+
+-- ---- check, by its cases
+
+pub check-header : (file : List ℕ) → headerSound file ≡ false → record { answer = 5; bucket = noBucket } ≡ check file
+unfolding check
+check-header file h = rw h
+
+pub check-region : (file : List ℕ) → headerSound file ≡ true → (k : ℕ) → k ≡ lowestUnsound file → k < mostOf file → record { answer = 7; bucket = k } ≡ check file
+unfolding check
+check-region file h k e l = rw (h, lt-ltb (lowestUnsound file) (mostOf file) (omega arith)) (λ i. record { answer = 7; bucket = e i })
+
+pub check-none : (file : List ℕ) → headerSound file ≡ true → (k : ℕ) → k ≡ lowestUnsound file → mostOf file ≤ k → record { answer = 0; bucket = noBucket } ≡ check file
+unfolding check
+check-none file h k e l = rw (h, le-ltb (lowestUnsound file) (mostOf file) (omega arith))
+
+-- no second outcome fits
+pub check-single : (file : List ℕ) (o p : Checked) → o ≡ check file → p ≡ check file → o ≡ p
+check-single file o p eo ep = eo ∙ sym ep
+
+-- ---- view, by its cases
+
+pub view-header : (file : List ℕ) (a : ℕ) → headerSound file ≡ false → [] ≡ view file a
+unfolding view
+view-header file a h = rw h
+
+pub view-high : (file : List ℕ) (a : ℕ) → headerSound file ≡ true → bucketsOf file ≤ a → [] ≡ view file a
+unfolding view
+view-high file a h l = rw (h, le-ltb a (bucketsOf file) l)
+
+pub view-unsound : (file : List ℕ) (a : ℕ) → headerSound file ≡ true → a < bucketsOf file → bucketSoundIn file a ≡ false → [] ≡ view file a
+unfolding view
+view-unsound file a h l u = rw (h, lt-ltb a (bucketsOf file) l, u)
+
+-- a sound bucket's count is within its slots
+pub sound-few : (file : List ℕ) (a : ℕ) → bucketSoundIn file a ≡ true → countOf (regionOf file a) ≤ slotsOf file
+unfolding bucketSoundIn
+sound-few file a h = bucket-few firstBuckets (stateOf file) (slotsOf file) a (regionOf file a) h
+
+pub count-in : (file : List ℕ) (a : ℕ) → countOf (regionOf file a) ≡ leAt 2 file (startOf (slotsOf file) a + 4)
+count-in file a = ap (λ (r : List ℕ). leAt 2 r 4) (region-is file a) ∙ le-part 2 file (startOf (slotsOf file) a) (slotAt (slotsOf file)) 4 (omega arith)
+
+module _ (file : List ℕ) (header : Header) (seen : Known file header) (a at n : ℕ) (ea : at ≡ startOf (header .slots) a) (en : n ≡ leAt 2 file (at + 4))
+    (exists : a < bucketsOf file) (sound : bucketSoundIn file a ≡ true) where
+  placed : at ≡ startOf (slotsOf file) a
+  placed = ea ∙ ap (λ (S : ℕ). startOf S a) (seen .slots)
+
+  counted : n ≡ countOf (regionOf file a)
+  counted = en ∙ ap (λ (p : ℕ). leAt 2 file (p + 4)) placed ∙ sym (count-in file a)
+
+  pub view-fits : at + 8 + 24 * n ≤ length file
+  view-fits = omega (arith, known-fits file header seen a at ea (omega (arith, seen .ranges .few)), counted, sound-few file a sound, seen .slots)
+
+  pub view-used : take (at + 8 + 24 * n - (at + 8)) (drop (at + 8) file) ≡ view file a
+  unfolding view
+  view-used = rw (seen .sound, lt-ltb a (bucketsOf file) exists, sound)
+      (ap₂ (λ (m p : ℕ). take m (drop (p + 8) file)) wide placed ∙ sym (part-is (startOf (slotsOf file) a + 8) (24 * countOf (regionOf file a)) file))
+    where
+      wide : at + 8 + 24 * n - (at + 8) ≡ 24 * countOf (regionOf file a)
+      wide = omega (arith, counted)
+
+pub view-single : (file : List ℕ) (a : ℕ) (o p : List ℕ) → o ≡ view file a → p ≡ view file a → o ≡ p
+view-single file a o p eo ep = eo ∙ sym ep

@@ -1,0 +1,237 @@
+// The file's header and its regions: judged, created, checked and viewed.
+use address::Image;
+ghost use mathlib.Core.Path.{_≡_};
+ghost use mathlib.Core.Bool.{true, false};
+ghost use Prim.Native.Nat.{_+_, _*_, _≤_, _<_};
+ghost use lib.ListN.{length, take, set};
+ghost use Rattle.layout.specs.Bytes.{edit, leBytes};
+ghost use Rattle.bucket.specs.Region.{slotAt, countOf, ridesOf, keysOf};
+ghost use Rattle.file.specs.File.Judge.{Known};
+ghost use Rattle.file.specs.File.{Checked, Created, fileMark, figuresFit, stateFits, headerOf, bucketsOf, startOf, regionOf, bucketSoundIn, regionSound, lowestUnsound, check, view, create};
+
+// A file's header, read and judged; of an unsound one nothing is known.
+pub struct Header {
+    pub sound: bool,
+    pub state: Image,
+    pub capacity: u32,
+    pub slots: u32,
+    pub most: u32,
+}
+
+// A check's reply, and the lowest unsound region with 7.
+pub struct CheckAnswer {
+    pub reply: u32,
+    pub bucket: u32,
+}
+
+// The header of a file that has none.
+fn no_header() -> Header
+    ensures { λ r. ⌜ r ≡ record { sound = false; state = record { level = 0; pointer = 0 }; capacity = 0; slots = 0; most = 0 } ⌝ }
+{
+    let state = Image {
+        level: 0,
+        pointer: 0,
+    };
+    Header {
+        sound: false,
+        state,
+        capacity: 0,
+        slots: 0,
+        most: 0,
+    }
+}
+
+// Whether the figures are in range and the length is theirs.
+fn figures_fit(long: u64, capacity: u64, slots: u64, most: u64) -> bool
+    ensures { λ r. ⌜ r ≡ figuresFit long capacity slots most ⌝ }
+{
+    let ranged = (1 <= slots)
+        & (slots <= 64)
+        & (1 <= capacity)
+        & (capacity <= slots)
+        & (1 <= most)
+        & (most <= 4096);
+    if !ranged {
+        return false;
+    }
+    long == 16 + most * (8 + 24 * slots)
+}
+
+// Whether a state is one of a file of at most `most` buckets.
+fn state_fits(state: Image, most: u64) -> bool
+    requires { ⌜ (state .pointer < 65536) × (most ≤ 4096) ⌝ }
+    ensures { λ r. ⌜ r ≡ stateFits state most ⌝ }
+{
+    if address::MOST_LEVEL < state.level {
+        return false;
+    }
+    let span = address::span(address::FIRST_BUCKETS, state.level);
+    let buckets = address::buckets(address::FIRST_BUCKETS, state);
+    (state.pointer < span) & (buckets as u64 <= most)
+}
+
+// Reads a file's header and judges it.
+pub fn header_of(file: &[u8]) -> Header
+    ensures { λ r. ⌜ r ≡ headerOf (now (file .entry)) ⌝ }
+{
+    let long = file.len();
+    if long < 16 {
+        return no_header();
+    }
+    let capacity = layout::wide(file[3]);
+    let most = layout::read2(file, 6);
+    let slots = layout::wide(file[8]);
+    let fixed = layout::has_mark(file, 0, b"LF") & layout::is_zero(&file[9..16]);
+    if !fixed {
+        return no_header();
+    }
+    if !figures_fit(long as u64, capacity, slots, most) {
+        return no_header();
+    }
+    let state = Image {
+        level: layout::wide(file[2]) as u32,
+        pointer: layout::read2(file, 4) as u32,
+    };
+    if !state_fits(state, most) {
+        return no_header();
+    }
+    Header {
+        sound: true,
+        state,
+        capacity: capacity as u32,
+        slots: slots as u32,
+        most: most as u32,
+    }
+}
+
+// Where a region starts.
+fn start(slots: u32, bucket: u32) -> usize
+    requires { ⌜ (slots ≤ 64) × (bucket ≤ 4096) ⌝ }
+    ensures { λ r. ⌜ (r ≡ startOf slots bucket) × (r ≤ 6324240) ⌝ }
+{
+    16 + bucket as usize * (8 + 24 * slots as usize)
+}
+
+// Whether a bucket of a file is sound; its keys are then gathered.
+pub fn bucket_sound(file: &[u8], header: Header, bucket: u32, keys: &mut [u64]) -> bool
+    requires { ⌜ Known (now file) header × (bucket < bucketsOf (now file)) × (length (now keys) ≡ 64) ⌝ }
+    ensures { λ r. ⌜ (r ≡ bucketSoundIn (now (file .entry)) bucket) × (r ≡ true → take (countOf (regionOf (now (file .entry)) bucket)) (now (keys .exit)) ≡ keysOf (ridesOf (regionOf (now (file .entry)) bucket))) ⌝ }
+{
+    let slots = header.slots;
+    let at = start(slots, bucket);
+    let end = at + (8 + 24 * slots as usize);
+    let level = address::level_of(address::FIRST_BUCKETS, header.state, bucket);
+    bucket::judge(
+        &file[at..end],
+        slots,
+        address::FIRST_BUCKETS,
+        bucket,
+        level,
+        keys,
+    )
+}
+
+// Whether a region of a file is sound, a bucket's or one past the last bucket.
+fn region_sound(file: &[u8], header: Header, region: u32, keys: &mut [u64]) -> bool
+    requires { ⌜ Known (now file) header × (region < header .most) × (length (now keys) ≡ 64) ⌝ }
+    ensures { λ r. ⌜ r ≡ regionSound (now (file .entry)) region ⌝ }
+{
+    if region < address::buckets(address::FIRST_BUCKETS, header.state) {
+        return bucket_sound(file, header, region, keys);
+    }
+    let slots = header.slots;
+    let at = start(slots, region);
+    let end = at + (8 + 24 * slots as usize);
+    layout::is_zero(&file[at..end])
+}
+
+// The lowest unsound region, and the number of regions if there is none.
+fn lowest_unsound(file: &[u8], header: Header, keys: &mut [u64]) -> u32
+    requires { ⌜ Known (now file) header × (length (now keys) ≡ 64) ⌝ }
+    ensures { λ r. ⌜ r ≡ lowestUnsound (now (file .entry)) ⌝ }
+{
+    let most = header.most;
+    let mut region = 0;
+    while region < most {
+        if !region_sound(file, header, region, keys) {
+            return region;
+        }
+        region = region + 1;
+    }
+    region
+}
+
+// Checks a whole file: 5, 7 with the lowest unsound region, or 0.
+pub fn check(file: &[u8]) -> CheckAnswer
+    ensures { λ r. ⌜ record { answer = r .reply; bucket = r .bucket } ≡ check (now (file .entry)) ⌝ }
+{
+    let header = header_of(file);
+    if !header.sound {
+        return CheckAnswer {
+            reply: 5,
+            bucket: address::NO_BUCKET,
+        };
+    }
+    let mut keys = [0u64; 64];
+    let lowest = lowest_unsound(file, header, &mut keys);
+    if lowest < header.most {
+        return CheckAnswer {
+            reply: 7,
+            bucket: lowest,
+        };
+    }
+    CheckAnswer {
+        reply: 0,
+        bucket: address::NO_BUCKET,
+    }
+}
+
+// The used slots of a bucket, as a part of the file; no byte of it if the header is unsound, the number is
+// too high or the bucket is unsound.
+pub fn view(file: &[u8], bucket: u64) -> &[u8]
+    ensures { λ r. ⌜ now r ≡ view (now (file .entry)) bucket ⌝ }
+{
+    let header = header_of(file);
+    if !header.sound {
+        return &file[0..0];
+    }
+    let buckets = address::buckets(address::FIRST_BUCKETS, header.state);
+    if buckets as u64 <= bucket {
+        return &file[0..0];
+    }
+    let number = bucket as u32;
+    let mut keys = [0u64; 64];
+    if !bucket_sound(file, header, number, &mut keys) {
+        return &file[0..0];
+    }
+    let slots = header.slots;
+    let at = start(slots, number);
+    let from = at + 8;
+    let to = from + 24 * layout::read2(file, at + 4) as usize;
+    &file[from..to]
+}
+
+// Writes the figures of a new file's header over zeros.
+fn put_figures(file: &mut [u8], capacity: u64, slots: u64, most: u64)
+    requires { ⌜ (16 ≤ length (now file)) × (capacity < 256) × (slots < 256) ⌝ }
+    ensures { λ _. ⌜ now (file .exit) ≡ set (edit 6 (leBytes 2 most) (set (edit 0 fileMark (now (file .entry))) 3 capacity)) 8 slots ⌝ }
+{
+    layout::put(file, 0, b"LF");
+    file[3] = capacity as u8;
+    layout::put2(file, 6, most);
+    file[8] = slots as u8;
+}
+
+// Writes the sound file in state (0, 0) without records.
+pub fn create(file: &mut [u8], capacity: u64, slots: u64, most: u64) -> u8
+    ensures { λ r. ⌜ record { answer = r; file = now (file .exit) } ≡ create (now (file .entry)) capacity slots most ⌝ }
+{
+    if !figures_fit(file.len() as u64, capacity, slots, most) {
+        return 13;
+    }
+    layout::clear(file);
+    put_figures(file, capacity, slots, most);
+    let end = 16 + (8 + 24 * slots as usize);
+    bucket::renew(&mut file[16..end], slots as u32, 0);
+    0
+}
