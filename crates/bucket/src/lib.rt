@@ -10,9 +10,6 @@ ghost use Rattle.layout.specs.Bytes.{leBytes, allBelow, firstFrom, edit, part};
 ghost use mathlib.Core.List.{[]};
 ghost use Rattle.bucket.specs.Region.{slotAt, countOf, slotUsed, ridesFrom, ridesOf, keysOf, every, distinct, headSound, soundWith, slotBytes, layOut, encode, kept};
 
-// The most slots of a bucket.
-pub const MOST_SLOTS: usize = 64;
-
 // Whether a head is well formed, of the level given and with a count of at most `slots`.
 fn head_sound(region: &[u8], slots: u32, level: u32) -> bool
     requires { ⌜ 8 ≤ length (now region) ⌝ }

@@ -2,7 +2,9 @@
 pub mod Judge
 pub mod Region
 pub mod Create
-use Prim.Native.Nat.{ℕ, _+_, _*_, _-_}
+pub mod Write
+pub mod Split
+use Prim.Native.Nat.{ℕ, suc, _+_, _*_, _-_}
 use mathlib.Core.Path.{_≡_}
 use mathlib.Core.Bool.{Bool, true, false, cond, not, _&&_}
 use mathlib.Core.List.{List, [], _∷_, _++_}
@@ -10,11 +12,11 @@ use lib.Dec.{leb, ltb, eqb}
 use lib.ListN.{length, replicate}
 use Rattle.address.specs.Limits.{firstBuckets, noBucket, mostBuckets, mostSlots}
 use Rattle.address.specs.declared.Image.{Image}
-use Rattle.address.specs.Rules.{«at», span, buckets}
+use Rattle.address.specs.Rules.{«at», span, buckets, keeps, newborn, grown}
 use Rattle.layout.specs.Bytes.{byteAt, leAt, leBytes, marked, allBelow, allZero, firstFrom, edit, part}
 use Rattle.layout.specs.Replies.{refuse, reply}
 use Rattle.file.specs.declared.Header.{Header}
-use Rattle.bucket.specs.Region.{slotAt, countOf, bucketSound, encode}
+use Rattle.bucket.specs.Region.{slotAt, countOf, ridesOf, bucketSound, encode, kept}
 
 -- The mark 4C 46 of a file.
 abbrev pub fileMark : List ℕ
@@ -69,6 +71,13 @@ startOf S a = 16 + a * (8 + 24 * S)
 pub regionOf : List ℕ → ℕ → List ℕ
 regionOf file a = part (startOf (slotsOf file) a) (slotAt (slotsOf file)) file
 
+-- The file with another region's bytes, and with another state in its header.
+pub withRegion : List ℕ → ℕ → List ℕ → List ℕ
+withRegion file a region = edit (startOf (slotsOf file) a) region file
+
+pub withState : List ℕ → Image → List ℕ
+withState file state = edit 4 (leBytes 2 (state .pointer)) (edit 2 (state .level ∷ []) file)
+
 -- A bucket of the file; a region past the last bucket is sound if all its bytes are zero; a file is sound if header and all M regions are.
 pub bucketSoundIn : List ℕ → ℕ → Bool
 bucketSoundIn file a = bucketSound firstBuckets (stateOf file) (slotsOf file) a (regionOf file a)
@@ -111,3 +120,33 @@ pub record Created : Type 0 where
 
 pub create : List ℕ → ℕ → ℕ → ℕ → Created
 create file b S M = cond (figuresFit (length file) b S M) (record { answer = 0; file = created b S M }) (record { answer = 13; file = file })
+
+-- Split: records of bucket n whose h_{i+1} is not n go to new bucket n + 2^i, both groups keeping their order and packed; freed slots are zeroed;
+-- both levels become i+1; n grows by 1, and at 2^i it becomes 0 and i grows by 1.
+pub staying : Image → ℕ → Bool
+staying state key = keeps firstBuckets (state .pointer) (suc (state .level)) key
+
+pub divided : List ℕ → List ℕ
+divided file =
+    let state = stateOf file in
+    let rides = ridesOf (regionOf file (state .pointer)) in
+    let old = encode (slotsOf file) (suc (state .level)) (kept (staying state) rides) in
+    let new = encode (slotsOf file) (suc (state .level)) (kept (λ key. not (staying state key)) rides) in
+    withState (withRegion (withRegion file (state .pointer) old) (newborn firstBuckets state) new) (grown firstBuckets state)
+
+-- Split: 5, 10, 7 (bucket n, then the new region). Its plain answer gives the old bucket and the new, else 65,535 twice, but with 7 the unsound one and 65,535.
+pub record Splitted : Type 0 where
+  pub answer : ℕ
+  pub old : ℕ
+  pub new : ℕ
+  pub file : List ℕ
+
+pub split : List ℕ → Splitted
+split file =
+    let old = stateOf file .pointer in
+    let new = newborn firstBuckets (stateOf file) in
+    cond (not (headerSound file)) (record { answer = 5; old = noBucket; new = noBucket; file = file })
+    (cond (leb (mostOf file) (bucketsOf file)) (record { answer = 10; old = noBucket; new = noBucket; file = file })
+    (cond (not (bucketSoundIn file old)) (record { answer = 7; old = old; new = noBucket; file = file })
+    (cond (not (allZero (regionOf file new))) (record { answer = 7; old = new; new = noBucket; file = file })
+    (record { answer = 0; old = old; new = new; file = divided file }))))

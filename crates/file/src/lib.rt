@@ -5,9 +5,11 @@ ghost use mathlib.Core.Bool.{true, false};
 ghost use Prim.Native.Nat.{_+_, _*_, _≤_, _<_};
 ghost use lib.ListN.{length, take, set};
 ghost use Rattle.layout.specs.Bytes.{edit, leBytes};
-ghost use Rattle.bucket.specs.Region.{slotAt, countOf, ridesOf, keysOf};
+ghost use Rattle.bucket.specs.Region.{slotAt, countOf, ridesOf, keysOf, encode, kept};
+ghost use Rattle.address.specs.Rules.{keeps, newborn};
 ghost use Rattle.file.specs.File.Judge.{Known};
-ghost use Rattle.file.specs.File.{Checked, Created, fileMark, figuresFit, stateFits, headerOf, bucketsOf, startOf, regionOf, bucketSoundIn, regionSound, lowestUnsound, check, view, create};
+ghost use Rattle.file.specs.File.Split.{Refill};
+ghost use Rattle.file.specs.File.{Checked, Created, Splitted, stateOf, divided, split, fileMark, figuresFit, stateFits, headerOf, bucketsOf, mostOf, startOf, withRegion, withState, regionOf, bucketSoundIn, regionSound, lowestUnsound, check, view, create};
 
 // A file's header, read and judged; of an unsound one nothing is known.
 pub struct Header {
@@ -234,4 +236,108 @@ pub fn create(file: &mut [u8], capacity: u64, slots: u64, most: u64) -> u8
     let end = 16 + (8 + 24 * slots as usize);
     bucket::renew(&mut file[16..end], slots as u32, 0);
     0
+}
+
+// A split's reply, the old bucket and the new; with 7 the unsound one.
+pub struct SplitAnswer {
+    pub reply: u32,
+    pub old_bucket: u32,
+    pub new_bucket: u32,
+}
+
+// Writes the state of a file's header.
+fn put_state(file: &mut [u8], state: Image)
+    requires { ⌜ (16 ≤ length (now file)) × (state .level < 256) × (state .pointer < 65536) ⌝ }
+    ensures { λ _. ⌜ now (file .exit) ≡ withState (now (file .entry)) state ⌝ }
+{
+    let level = [state.level as u8];
+    layout::put(file, 2, &level);
+    layout::put2(file, 4, state.pointer as u64);
+}
+
+// Makes a region that of a bucket with those rides of a source that belong to it at a level.
+fn refill_region(file: &mut [u8], source: &[u8], slots: u32, bucket: u32, level: u32)
+    requires { ⌜ Refill (now file) (now source) slots bucket level ⌝ }
+    ensures { λ _. ⌜ now (file .exit) ≡ withRegion (now (file .entry)) bucket (encode slots level (kept (keeps 1 bucket level) (ridesOf (now (source .entry))))) ⌝ }
+{
+    let at = start(slots, bucket);
+    let end = at + (8 + 24 * slots as usize);
+    bucket::refill(
+        source,
+        &mut file[at..end],
+        slots,
+        address::FIRST_BUCKETS,
+        bucket,
+        level,
+    );
+}
+
+// Divides bucket n with the new bucket, from a copy of its region, and lets the state grow.
+fn spread(file: &mut [u8], source: &[u8], header: Header, old: u32, new: u32)
+    requires { ⌜ Known (now file) header × (bucketsOf (now file) < mostOf (now file)) × (old ≡ header .state .pointer) × (new ≡ newborn 1 (header .state)) × (now source ≡ regionOf (now file) (stateOf (now file) .pointer)) × (bucketSoundIn (now file) (stateOf (now file) .pointer) ≡ true) ⌝ }
+    ensures { λ _. ⌜ now (file .exit) ≡ divided (now (file .entry)) ⌝ }
+{
+    let slots = header.slots;
+    let state = header.state;
+    let level = state.level + 1;
+    refill_region(file, source, slots, old, level);
+    refill_region(file, source, slots, new, level);
+    put_state(file, address::grown(address::FIRST_BUCKETS, state));
+}
+
+// Divides bucket n of a file with the new bucket.
+fn divide(file: &mut [u8], header: Header, old: u32, new: u32)
+    requires { ⌜ Known (now file) header × (bucketsOf (now file) < mostOf (now file)) × (old ≡ header .state .pointer) × (new ≡ newborn 1 (header .state)) × (bucketSoundIn (now file) old ≡ true) ⌝ }
+    ensures { λ _. ⌜ now (file .exit) ≡ divided (now (file .entry)) ⌝ }
+{
+    let slots = header.slots;
+    let at = start(slots, old);
+    let size = 8 + 24 * slots as usize;
+    let end = at + size;
+    let mut copy = [0u8; 1544];
+    layout::put(&mut copy, 0, &file[at..end]);
+    spread(file, &copy[..size], header, old, new);
+}
+
+// Splits bucket n: 5, 10, 7, or both buckets' numbers.
+pub fn split(file: &mut [u8]) -> SplitAnswer
+    ensures { λ r. ⌜ record { answer = r .reply; old = r .«old_bucket»; new = r .«new_bucket»; file = now (file .exit) } ≡ split (now (file .entry)) ⌝ }
+{
+    let header = header_of(file);
+    if !header.sound {
+        return refused_split(5, address::NO_BUCKET);
+    }
+    let state = header.state;
+    if header.most <= address::buckets(address::FIRST_BUCKETS, state) {
+        return refused_split(10, address::NO_BUCKET);
+    }
+    let old = state.pointer;
+    let mut keys = [0u64; 64];
+    if !bucket_sound(file, header, old, &mut keys) {
+        return refused_split(7, old);
+    }
+    let new = address::newborn(address::FIRST_BUCKETS, state);
+    let slots = header.slots;
+    let at = start(slots, new);
+    let end = at + (8 + 24 * slots as usize);
+    if !layout::is_zero(&file[at..end]) {
+        return refused_split(7, new);
+    }
+    divide(file, header, old, new);
+    SplitAnswer {
+        reply: 0,
+        old_bucket: old,
+        new_bucket: new,
+    }
+}
+
+// A refused split's answer.
+fn refused_split(reply: u32, bucket: u32) -> SplitAnswer
+    ensures { λ r. ⌜ (r .reply ≡ reply) × (r .«old_bucket» ≡ bucket) × (r .«new_bucket» ≡ 65535) ⌝ }
+{
+    SplitAnswer {
+        reply,
+        old_bucket: bucket,
+        new_bucket: address::NO_BUCKET,
+    }
 }

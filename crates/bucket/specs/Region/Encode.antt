@@ -181,3 +181,7 @@ module _ (S j count : ℕ) (rides : List Ride) (whole : AllWhole rides) where
   pub head-back : headFormed (layOut S j count rides) ≡ true
   unfolding layOut headBytes headFormed
   head-back = rw (leBytes-two count)
+
+pub length-encode : (S j : ℕ) (rides : List Ride) → AllWhole rides → length rides ≤ S → length (encode S j rides) ≡ slotAt S
+unfolding encode
+length-encode S j rides whole room = length-layOut S j rides whole (length rides) room

@@ -224,6 +224,16 @@ bucket-judged N positive s formed S a exists region =
         (λ e. eq-eqb (address N s key) a e ∙ sym (keeps-yes N a (level N s a) key (own key .0 e)))
         (λ e. ne-eqb (address N s key) a e ∙ sym (keeps-no N a (level N s a) key (λ h. e (own key .1 h))))
 
-pub bucket-few : (N : ℕ) (s : Image) (S a : ℕ) (region : List ℕ) → bucketSound N s S a region ≡ true → countOf region ≤ S
+pub bucket-parts : (N : ℕ) (s : Image) (S a : ℕ) (region : List ℕ) → bucketSound N s S a region ≡ true
+    → Parts S (level N s a) (λ key. eqb (address N s key) a) region
 unfolding bucketSound
-bucket-few N s S a region h = parts S (level N s a) (λ key. eqb (address N s key) a) region h .few
+bucket-parts N s S a region h = parts S (level N s a) (λ key. eqb (address N s key) a) region h
+
+pub bucket-few : (N : ℕ) (s : Image) (S a : ℕ) (region : List ℕ) → bucketSound N s S a region ≡ true → countOf region ≤ S
+bucket-few N s S a region h = bucket-parts N s S a region h .few
+
+-- an empty bucket is sound at its level
+pub empty-sound : (N : ℕ) (s : Image) (S a j : ℕ) → S < 65536 → level N s a ≡ j → bucketSound N s S a (encode S j []) ≡ true
+unfolding bucketSound keysOf every distinct
+empty-sound N s S a j small e = ap (λ (k : ℕ). soundWith S k (λ key. eqb (address N s key) a) (encode S j [])) e
+    ∙ encode-sound S j [] tt (omega arith) small (λ key. eqb (address N s key) a)

@@ -3,25 +3,37 @@ use Prim.Native.Nat.{ℕ, zero, suc, _+_, _*_, _-_, _/_, _%_, _≤_, _<_}
 use mathlib.Core.Path.{_≡_, refl, sym, ap, ap₂, _∙_}
 use mathlib.Core.Bool.{Bool, true, false, cond, not, _&&_}
 use mathlib.Core.List.{List, [], _∷_, _++_, append-assoc}
-use native.Mathlib.Nat.{suc-mul, add-comm}
+use native.Mathlib.Nat.{suc-mul, add-comm, mul-le-mul-right}
+use mathlib.Core.Logic.{by-cases}
+use native.Mathlib.Decide.{decLt}
 use native.Mathlib.Omega.{arith}
 use borrow.Author.Tests.{le-leb, lt-ltb, eq-eqb}
 use lib.Dec.{leb, ltb, eqb}
-use lib.ListN.{length, getD, take, drop, set, replicate, length-append, length-replicate, replicate-append-replicate}
-use lib.Seq.{take-at, drop-at, drop-drop}
+use lib.ListN.{length, getD, take, drop, set, replicate, length-append, length-replicate, getD-replicate, List·getD-eq-default, replicate-append-replicate}
+use lib.Seq.{take-at, drop-at, getD-append-add}
 use Rattle.address.specs.Limits.{firstBuckets}
-use Rattle.address.specs.Rules.{«at»}
-use Rattle.layout.specs.Bytes.{leBytes, edit, part}
-use Rattle.layout.specs.Bytes.Edit.{edit-seam}
-use Rattle.layout.specs.Bytes.Numbers.{leBytes-two}
-use Rattle.bucket.specs.Region.{slotAt, encode}
-use Rattle.bucket.specs.Region.Encode.{length-layOut}
-use Rattle.file.specs.File.{fileMark, fileLength, figuresFit, headerBytes, created, Created, create}
-use Rattle.file.specs.File.Judge.{Figures, figures}
+use Rattle.address.specs.declared.Image.{Image}
+use Rattle.address.specs.Rules.{«at», span, buckets}
+use Rattle.address.specs.Rules.Hash.{span-is}
+use Rattle.address.specs.Rules.Cases.{buckets-is, level-rest}
+use Rattle.layout.specs.Bytes.{leBytes, marked, allBelow, allZero, edit, part}
+use Rattle.layout.specs.Bytes.Tests.{and-both, replicate-zero, zero-all, all-of}
+use Rattle.layout.specs.Bytes.Edit.{edit-seam, part-seam, part-at, length-part}
+use Rattle.layout.specs.Bytes.Numbers.{leBytes-two, le-two}
+use Rattle.bucket.specs.Region.{slotAt, bucketSound, encode}
+use Rattle.bucket.specs.Region.Sound.{empty-sound}
+use Rattle.bucket.specs.Region.Encode.{length-encode}
+use Rattle.file.specs.File.{fileMark, mostOf, stateOf, fileLength, figuresFit, stateFits, bucketsOf, headerSound, startOf, regionOf, bucketSoundIn, regionSound, fileSound, headerBytes, created, Created, create}
+use Rattle.file.specs.File.Region.{region-is, region-within, region-bucket, region-past}
+use Rattle.file.specs.File.Judge.{Figures, figures, figures-back, state-back}
 
 -- zeros, of numbers
 abbrev zeros : ℕ → List ℕ
 zeros n = replicate n 0
+
+zeros-at : (n k : ℕ) → getD (zeros n) k 0 ≡ 0
+zeros-at n k = by-cases (decLt k n) (λ h. getD-replicate n k 0 0 h)
+    (λ h. List·getD-eq-default (zeros n) 0 {n = k} (omega (arith, length-replicate {A = ℕ} n 0)))
 
 zeros-split : (n m : ℕ) → zeros (n + m) ≡ zeros n ++ zeros m
 zeros-split n m = sym (replicate-append-replicate n m 0)
@@ -39,13 +51,17 @@ pub length-header : (b S M : ℕ) → length (headerBytes («at» 0 0) b S M) �
 unfolding headerBytes
 length-header b S M = rw (leBytes-two 0, leBytes-two M)
 
+-- one region and the others
+one-region : (S M : ℕ) → 1 ≤ M → M * (8 + 24 * S) ≡ 8 + 24 * S + (M - 1) * (8 + 24 * S)
+one-region S M some = ap (λ (m : ℕ). m * (8 + 24 * S)) one ∙ suc-mul (M - 1) (8 + 24 * S) ∙ add-comm ((M - 1) * (8 + 24 * S)) (8 + 24 * S)
+  where
+    one : M ≡ suc (M - 1)
+    one = omega arith
+
 -- the file that is left: zeros, then the header's figures, then the first bucket's region
 module _ (b S M : ℕ) (file : List ℕ) (fits : Figures (length file) b S M) where
   all : M * (8 + 24 * S) ≡ 8 + 24 * S + (M - 1) * (8 + 24 * S)
-  all = ap (λ (m : ℕ). m * (8 + 24 * S)) one ∙ suc-mul (M - 1) (8 + 24 * S) ∙ add-comm ((M - 1) * (8 + 24 * S)) (8 + 24 * S)
-    where
-      one : M ≡ suc (M - 1)
-      one = omega (arith, fits .some-buckets)
+  all = one-region S M (fits .some-buckets)
 
   pub create-room : 16 + (8 + 24 * S) ≤ length file
   create-room = omega (arith, fits .whole, all)
@@ -86,3 +102,118 @@ create-done file after b S M h e = rw h (λ i. record { answer = 0; file = e i }
 
 pub create-single : (file : List ℕ) (b S M : ℕ) (o p : Created) → o ≡ create file b S M → p ≡ create file b S M → o ≡ p
 create-single file b S M o p eo ep = eo ∙ sym ep
+
+-- ---- the created file is sound
+
+module _ (b S M : ℕ) (fits : Figures (fileLength S M) b S M) where
+  -- its first 16 bytes, and those behind them
+  head : List ℕ
+  head = 76 ∷ 70 ∷ 0 ∷ b ∷ 0 ∷ 0 ∷ M % 256 ∷ M / 256 % 256 ∷ S ∷ zeros 7
+
+  behind : List ℕ
+  behind = encode S 0 [] ++ zeros ((M - 1) * (8 + 24 * S))
+
+  is-laid : created b S M ≡ head ++ behind
+  unfolding created headerBytes head behind
+  is-laid = ap₂ (λ (p q : List ℕ). fileMark ++ (0 ∷ b ∷ []) ++ p ++ q ++ (S ∷ []) ++ zeros 7 ++ (encode S 0 [] ++ zeros ((M - 1) * (8 + 24 * S)))) (leBytes-two 0) (leBytes-two M)
+
+  most : mostOf (head ++ behind) ≡ M
+  unfolding head
+  most = sym (le-two (head ++ behind) 6) ∙ omega (arith, fits .few-buckets)
+
+  state : stateOf (head ++ behind) ≡ «at» 0 0
+  unfolding stateOf head
+  state = λ i. record { level = 0; pointer = (sym (le-two (head ++ behind) 4)) i }
+
+  first-long : length (encode S 0 []) ≡ 8 + 24 * S
+  first-long = length-encode S 0 [] tt (omega arith)
+
+  laid-long : length (head ++ behind) ≡ fileLength S M
+  unfolding head behind
+  laid-long = omega (
+    arith,
+    length-append (encode S 0 []) (zeros ((M - 1) * (8 + 24 * S))),
+    first-long,
+    length-replicate {A = ℕ} ((M - 1) * (8 + 24 * S)) 0,
+    one-region S M (fits .some-buckets),
+  )
+
+  laid-at : (k : ℕ) → getD (head ++ behind) (16 + k) 0 ≡ getD behind k 0
+  unfolding head
+  laid-at k = getD-append-add head behind k 0
+
+  fixed : (marked (head ++ behind) 0 fileMark && allZero (part 9 7 (head ++ behind))) ≡ true
+  unfolding head
+  fixed = ap allZero (part-seam 9 (76 ∷ 70 ∷ 0 ∷ b ∷ 0 ∷ 0 ∷ M % 256 ∷ M / 256 % 256 ∷ S ∷ []) (zeros 7) behind refl) ∙ replicate-zero 7
+
+  one-bucket : buckets firstBuckets («at» 0 0) ≡ 1
+  one-bucket = buckets-is firstBuckets («at» 0 0) ∙ omega (arith, span-is firstBuckets 0)
+
+  laid-header : headerSound (head ++ behind) ≡ true
+  unfolding headerSound head
+  laid-header = and-both _ _ (and-both _ _ (and-both _ _ (le-leb 16 (length (head ++ behind)) (omega (arith, laid-long))) fixed)
+      (ap₂ (λ (n m : ℕ). figuresFit n b S m) laid-long most ∙ figures-back (fileLength S M) b S M fits))
+      (ap₂ stateFits state most ∙ state-back («at» 0 0) M (omega (arith, span-is firstBuckets 0)) (omega (arith, one-bucket, fits .some-buckets)))
+
+  -- its first region is an empty bucket of level 0, the others are zero
+  first-region : regionOf (head ++ behind) 0 ≡ encode S 0 []
+  unfolding head behind
+  first-region = region-is (head ++ behind) 0 ∙ ap₂ (λ (p n : ℕ). part p n (head ++ behind)) place (sym first-long) ∙ part-seam 16 head (encode S 0 []) (zeros ((M - 1) * (8 + 24 * S))) refl
+    where
+      place : startOf S 0 ≡ 16
+      place = omega arith
+
+  other-region : (a : ℕ) → 1 ≤ a → a < M → allZero (regionOf (head ++ behind) a) ≡ true
+  unfolding head behind
+  other-region a some there = ap allZero (region-is (head ++ behind) a) ∙ zero-all (part (startOf S a) (slotAt S) (head ++ behind)) each
+    where
+      past : 8 + 24 * S ≤ a * (8 + 24 * S)
+      past = omega (arith, mul-le-mul-right (8 + 24 * S) some)
+
+      long : length (part (startOf S a) (slotAt S) (head ++ behind)) ≡ slotAt S
+      long = length-part (startOf S a) (slotAt S) (head ++ behind) (omega (arith, laid-long, region-within S M a there))
+
+      each : (k : ℕ) → k < length (part (startOf S a) (slotAt S) (head ++ behind)) → getD (part (startOf S a) (slotAt S) (head ++ behind)) k 0 ≡ 0
+      each k h =
+          part-at (startOf S a) (slotAt S) (head ++ behind) k (omega (arith, long))
+          ∙ ap (λ (i : ℕ). getD (head ++ behind) i 0) inside
+          ∙ laid-at (8 + 24 * S + (a * (8 + 24 * S) - (8 + 24 * S) + k))
+          ∙ ap (λ (i : ℕ). getD (encode S 0 [] ++ zeros ((M - 1) * (8 + 24 * S))) (i + (a * (8 + 24 * S) - (8 + 24 * S) + k)) 0) (sym first-long)
+          ∙ getD-append-add (encode S 0 []) (zeros ((M - 1) * (8 + 24 * S))) (a * (8 + 24 * S) - (8 + 24 * S) + k) 0
+          ∙ zeros-at ((M - 1) * (8 + 24 * S)) (a * (8 + 24 * S) - (8 + 24 * S) + k)
+        where
+          inside : startOf S a + k ≡ 16 + (8 + 24 * S + (a * (8 + 24 * S) - (8 + 24 * S) + k))
+          inside = omega (arith, past)
+
+  laid-buckets : bucketsOf (head ++ behind) ≡ 1
+  unfolding bucketsOf
+  laid-buckets = ap (buckets firstBuckets) state ∙ one-bucket
+
+  first-sound : bucketSoundIn (head ++ behind) 0 ≡ true
+  unfolding bucketSoundIn head
+  first-sound = ap₂ (λ (s : Image) (r : List ℕ). bucketSound firstBuckets s S 0 r) state first-region
+      ∙ empty-sound firstBuckets («at» 0 0) S 0 0 (omega (arith, fits .few-slots))
+      (level-rest firstBuckets («at» 0 0) 0 (omega arith) (omega (arith, span-is firstBuckets 0)))
+
+  laid-region : (a : ℕ) → a < M → regionSound (head ++ behind) a ≡ true
+  laid-region zero there = region-bucket (head ++ behind) 0 (omega (arith, laid-buckets)) ∙ first-sound
+  laid-region (suc a) there = region-past (head ++ behind) (suc a) (omega (arith, laid-buckets)) ∙ other-region (suc a) (omega arith) there
+
+  -- create gives a sound file
+  pub created-sound : fileSound (created b S M) ≡ true
+  unfolding fileSound
+  created-sound = ap (λ (l : List ℕ). headerSound l && allBelow (regionSound l) (mostOf l)) is-laid
+      ∙ and-both _ _ laid-header (all-of (regionSound (head ++ behind)) (mostOf (head ++ behind)) (λ a h. laid-region a (omega (arith, most))))
+
+pub create-sound : (file : List ℕ) (b S M : ℕ) → figuresFit (length file) b S M ≡ true → fileSound (created b S M) ≡ true
+create-sound file b S M h =
+    let f = figures (length file) b S M h in
+    created-sound b S M (record {
+      some-slots = f .some-slots;
+      few-slots = f .few-slots;
+      some-capacity = f .some-capacity;
+      few-capacity = f .few-capacity;
+      some-buckets = f .some-buckets;
+      few-buckets = f .few-buckets;
+      whole = refl;
+    })

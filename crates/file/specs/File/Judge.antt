@@ -6,7 +6,7 @@ use mathlib.Core.List.{List, [], _∷_}
 use mathlib.Core.Logic.{by-cases}
 use native.Mathlib.Decide.{decLt}
 use native.Mathlib.Omega.{arith}
-use borrow.Author.Tests.{ltb-true, leb-true, eqb-true, lt-leb, le-leb, not-true, not-false}
+use borrow.Author.Tests.{ltb-true, leb-true, eqb-true, lt-leb, le-leb, lt-ltb, eq-eqb, not-true, not-false}
 use lib.Dec.{leb, ltb, eqb}
 use lib.ListN.{length}
 use Rattle.address.specs.Limits.{firstBuckets}
@@ -76,6 +76,17 @@ module _ (long b S M : ℕ) where
         whole = eqb-true _ _ (and-right (ranged b S M) _ h);
       }
 
+  pub figures-back : Figures long b S M → figuresFit long b S M ≡ true
+  unfolding figuresFit
+  figures-back f = rw (
+    le-leb 1 S (f .some-slots),
+    le-leb S 64 (f .few-slots),
+    le-leb 1 b (f .some-capacity),
+    le-leb b S (f .few-capacity),
+    le-leb 1 M (f .some-buckets),
+    le-leb M 4096 (f .few-buckets),
+  ) (eq-eqb long (fileLength S M) (f .whole))
+
 -- ---- the state
 
 module _ (state : Image) (M : ℕ) where
@@ -88,9 +99,22 @@ module _ (state : Image) (M : ℕ) where
   unfolding stateFits
   state-is s n es en = rw (es, en)
 
+  pub state-back : Formed firstBuckets state → buckets firstBuckets state ≤ M → stateFits state M ≡ true
+  unfolding stateFits
+  state-back formed few = rw (lt-ltb (state .pointer) (span firstBuckets (state .level)) formed, le-leb (buckets firstBuckets state) M few)
+
   pub state-formed : stateFits state M ≡ true → Formed firstBuckets state × (buckets firstBuckets state ≤ M)
   unfolding stateFits
   state-formed h = (ltb-true _ _ (and-left _ _ h), leb-true _ _ (and-right (ltb (state .pointer) (span firstBuckets (state .level))) _ h))
+
+-- a state within the limits is small
+pub state-small : (state : Image) (M : ℕ) → M ≤ 4096 → Formed firstBuckets state → buckets firstBuckets state ≤ M → (state .level ≤ 12) × (state .pointer ≤ 4096)
+state-small state M few formed within = (
+  by-cases (decLt 12 (state .level))
+      (λ l. absurd (omega (arith, span-high (state .level) l, buckets-is firstBuckets state)))
+      (λ l. omega arith),
+  omega (arith, buckets-is firstBuckets state),
+)
 
 -- ---- the header
 

@@ -19,6 +19,10 @@ append-past xs ys k h = ap (λ (i : ℕ). getD (xs ++ ys) i 0) place ∙ getD-ap
     place : k ≡ length xs + (k - length xs)
     place = omega arith
 
+pub edit-is : (at : ℕ) (ys xs : List ℕ) → edit at ys xs ≡ take at xs ++ ys ++ drop (at + length ys) xs
+unfolding edit
+edit-is at ys xs = refl
+
 module _ (at : ℕ) (ys xs : List ℕ) (fits : at + length ys ≤ length xs) where
   front : length (take at xs ++ ys) ≡ at + length ys
   front = length-append (take at xs) ys ∙ ap (λ (n : ℕ). n + length ys) (length-take-le at xs (omega arith))

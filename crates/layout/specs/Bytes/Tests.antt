@@ -85,6 +85,10 @@ unfolding allZero
 zero-replicate xs h = ext-getD 0 xs (replicate (length xs) 0) (sym (length-replicate (length xs) 0))
     (λ k l. eqb-true (getD xs k 0) 0 (all-at (λ i. eqb (getD xs i 0) 0) (length xs) k h l) ∙ sym (getD-replicate (length xs) k 0 0 l))
 
+pub zero-all : (xs : List ℕ) → ((k : ℕ) → k < length xs → getD xs k 0 ≡ 0) → allZero xs ≡ true
+unfolding allZero
+zero-all xs each = all-of (λ i. eqb (getD xs i 0) 0) (length xs) (λ k l. eq-eqb (getD xs k 0) 0 (each k l))
+
 pub replicate-zero : (n : ℕ) → allZero (replicate n 0) ≡ true
 unfolding allZero
 replicate-zero n = all-of (λ i. eqb (getD (replicate n 0) i 0) 0) (length (replicate n 0))

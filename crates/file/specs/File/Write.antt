@@ -1,0 +1,126 @@
+-- What a write leaves: a region written is read there, every other region and the header are as they were; a state written is read there, and every region is as it was.
+use Prim.Native.Nat.{ℕ, suc, _+_, _*_, _-_, _≤_, _<_, min}
+use mathlib.Core.Path.{_≡_, refl, sym, ap, ap₂, _∙_}
+use mathlib.Core.Bool.{Bool, true, false, _&&_}
+use mathlib.Core.List.{List, [], _∷_, _++_, append-assoc}
+use mathlib.Core.Logic.{_⊎_, inl, inr, ⊎-elim, by-cases}
+use native.Mathlib.Decide.{decLt}
+use native.Mathlib.Omega.{arith}
+use lib.Dec.{leb, eqb}
+use lib.ListN.{length, getD, take, drop, length-take, length-drop}
+use lib.Seq.{drop-drop}
+use Rattle.address.specs.Limits.{firstBuckets}
+use Rattle.address.specs.declared.Image.{Image}
+use Rattle.layout.specs.Bytes.{Bytes, byteAt, leAt, leBytes, marked, allZero, edit, part}
+use Rattle.layout.specs.Bytes.Edit.{length-edit, edit-before, edit-in, edit-after, part-edit, part-before, part-after, part-at, part-is, same-bytes, edit-is, edit-bytes}
+use Rattle.layout.specs.Bytes.Numbers.{le-same, le-back, length-leBytes}
+use Rattle.bucket.specs.Region.{slotAt}
+use Rattle.file.specs.File.{fileMark, capacityOf, mostOf, slotsOf, stateOf, figuresFit, bucketsOf, stateFits, headerSound, startOf, regionOf, withRegion, withState}
+use Rattle.file.specs.File.Judge.{Ranges}
+use Rattle.file.specs.File.Region.{region-is, region-fits, region-apart}
+
+-- two files that agree in the first 16 bytes and in length have the same header
+module _ (file other : List ℕ) (long : length other ≡ length file) (same : (k : ℕ) → k < 16 → getD other k 0 ≡ getD file k 0) where
+  number : (at : ℕ) → at + 2 ≤ 16 → leAt 2 other at ≡ leAt 2 file at
+  number at h = le-same 2 other file at at (λ k l. same (at + k) (omega arith))
+
+  pub header-slots : slotsOf other ≡ slotsOf file
+  header-slots = same 8 (omega arith)
+
+  pub header-most : mostOf other ≡ mostOf file
+  header-most = number 6 (omega arith)
+
+  pub header-state : stateOf other ≡ stateOf file
+  unfolding stateOf
+  header-state = λ i. record { level = same 2 (omega arith) i; pointer = number 4 (omega arith) i }
+
+  pub header-same : headerSound other ≡ headerSound file
+  unfolding headerSound
+  header-same = ap₂ (λ (n : ℕ) (b : Bool). leb 16 n && b && figuresFit n (capacityOf other) (slotsOf other) (mostOf other) && stateFits (stateOf other) (mostOf other)) long fixed
+      ∙ ap₂ (λ (c S : ℕ). leb 16 (length file) && fixed-bytes && figuresFit (length file) c S (mostOf other) && stateFits (stateOf other) (mostOf other)) (same 3 (omega arith)) header-slots
+      ∙ ap₂ (λ (M : ℕ) (s : Image). leb 16 (length file) && fixed-bytes && figuresFit (length file) (capacityOf file) (slotsOf file) M && stateFits s M) header-most header-state
+    where
+      fixed-bytes : Bool
+      fixed-bytes = marked file 0 fileMark && allZero (part 9 7 file)
+
+      seven : (xs : List ℕ) → length (part 9 7 xs) ≡ min 7 (length xs - 9)
+      seven xs = ap length (part-is 9 7 xs) ∙ length-take 7 (drop 9 xs) ∙ ap (min 7) (length-drop 9 xs)
+
+      behind : part 9 7 other ≡ part 9 7 file
+      behind = same-bytes (part 9 7 other) (part 9 7 file) (seven other ∙ ap (λ (n : ℕ). min 7 (n - 9)) long ∙ sym (seven file))
+          (λ k h. part-at 9 7 other k (omega (arith, seven other)) ∙ same (9 + k) (omega (arith, seven other)) ∙ sym (part-at 9 7 file k (omega (arith, seven other))))
+
+      fixed : (marked other 0 fileMark && allZero (part 9 7 other)) ≡ (marked file 0 fileMark && allZero (part 9 7 file))
+      fixed = ap₂ _&&_ (ap₂ (λ (x y : ℕ). eqb x 76 && eqb y 70) (same 0 (omega arith)) (same 1 (omega arith))) (ap allZero behind)
+
+-- a region, written
+module _ (file : List ℕ) (seen : Ranges file) (a : ℕ) (there : a < mostOf file) (region : List ℕ) (whole : length region ≡ slotAt (slotsOf file)) where
+  fits : startOf (slotsOf file) a + length region ≤ length file
+  fits = omega (arith, region-fits file seen a there)
+
+  with-edit : (P : List ℕ → Type 0) → P (edit (startOf (slotsOf file) a) region file) → P (withRegion file a region)
+  unfolding withRegion
+  with-edit P p = p
+
+  pub with-length : length (withRegion file a region) ≡ length file
+  unfolding withRegion
+  with-length = length-edit (startOf (slotsOf file) a) region file fits
+
+  pub with-header : (k : ℕ) → k < 16 → getD (withRegion file a region) k 0 ≡ getD file k 0
+  unfolding withRegion
+  with-header k h = edit-before (startOf (slotsOf file) a) region file fits k (omega arith)
+
+  pub with-slots : slotsOf (withRegion file a region) ≡ slotsOf file
+  with-slots = header-slots file (withRegion file a region) with-length with-header
+
+  pub with-here : regionOf (withRegion file a region) a ≡ region
+  with-here =
+      region-is (withRegion file a region) a
+      ∙ ap (λ (S : ℕ). part (startOf S a) (slotAt S) (withRegion file a region)) with-slots
+      ∙ ap (λ (n : ℕ). part (startOf (slotsOf file) a) n (withRegion file a region)) (sym whole)
+      ∙ written
+    where
+      written : part (startOf (slotsOf file) a) (length region) (withRegion file a region) ≡ region
+      written = with-edit (λ (l : List ℕ). part (startOf (slotsOf file) a) (length region) l ≡ region) (part-edit (startOf (slotsOf file) a) region file fits)
+
+  pub with-other : (b : ℕ) → b < mostOf file → (b ≡ a → ⊥) → regionOf (withRegion file a region) b ≡ regionOf file b
+  with-other b h other =
+      region-is (withRegion file a region) b
+      ∙ ap (λ (S : ℕ). part (startOf S b) (slotAt S) (withRegion file a region)) with-slots
+      ∙ by-cases (decLt b a)
+      (λ l. with-edit (λ (l : List ℕ). part (startOf (slotsOf file) b) (slotAt (slotsOf file)) l ≡ part (startOf (slotsOf file) b) (slotAt (slotsOf file)) file)
+      (part-before (startOf (slotsOf file) a) region file fits (startOf (slotsOf file) b) (slotAt (slotsOf file)) (region-apart (slotsOf file) b a l)))
+      (λ l. with-edit (λ (l : List ℕ). part (startOf (slotsOf file) b) (slotAt (slotsOf file)) l ≡ part (startOf (slotsOf file) b) (slotAt (slotsOf file)) file)
+      (part-after (startOf (slotsOf file) a) region file fits (startOf (slotsOf file) b) (slotAt (slotsOf file))
+      (omega (arith, region-apart (slotsOf file) a b (omega (arith, other)))) (region-fits file seen b h)))
+      ∙ sym (region-is file b)
+
+  -- so its header is sound if it was, and in the same state
+  pub with-sound : headerSound (withRegion file a region) ≡ headerSound file
+  with-sound = header-same file (withRegion file a region) with-length with-header
+
+  pub with-state : stateOf (withRegion file a region) ≡ stateOf file
+  with-state = header-state file (withRegion file a region) with-length with-header
+
+  pub with-most : mostOf (withRegion file a region) ≡ mostOf file
+  with-most = header-most file (withRegion file a region) with-length with-header
+
+  pub with-bytes : Bytes region → Bytes file → Bytes (withRegion file a region)
+  unfolding withRegion
+  with-bytes br bf = edit-bytes (startOf (slotsOf file) a) region file fits br bf
+
+-- the part that a callee was lent and gave back is a region written
+pub with-lent : (file region : List ℕ) (a at n : ℕ) → at ≡ startOf (slotsOf file) a → n ≡ length region
+    → take at file ++ (region ++ drop n (drop at file)) ≡ withRegion file a region
+unfolding withRegion
+with-lent file region a at n ea en =
+    sym (append-assoc (take at file) region (drop n (drop at file)))
+    ∙ ap (λ (l : List ℕ). take at file ++ region ++ l) (drop-drop n at file ∙ ap (λ (m : ℕ). drop (at + m) file) en)
+    ∙ sym (edit-is at region file)
+    ∙ ap (λ (p : ℕ). edit p region file) ea
+
+-- ---- a state, written
+
+pub state-written : (file : List ℕ) (state : Image) → edit 4 (leBytes 2 (state .pointer)) (edit 2 (state .level ∷ []) file) ≡ withState file state
+unfolding withState
+state-written file state = refl
