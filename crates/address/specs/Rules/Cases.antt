@@ -1,12 +1,12 @@
 -- Each rule by its cases, over N and the state. From here on no rule is unfolded again.
 use Prim.Native.Nat.{ℕ, suc, _+_, _-_, _≤_, _<_}
-use mathlib.Core.Path.{_≡_, refl, _∙_}
+use mathlib.Core.Path.{_≡_, refl, sym, _∙_}
 use mathlib.Core.Bool.{Bool, true, false}
 use mathlib.Core.Logic.{⊎-elim}
 use native.Mathlib.Omega.{arith}
 use lib.Dec.{eqb}
 use borrow.Author.Tests.{lt-ltb, le-ltb, le-leb, lt-leb, eq-eqb, ne-eqb}
-use Rattle.address.specs.Compare.{below}
+use Rattle.address.specs.Compare.{below, same}
 use Rattle.address.specs.declared.Image.{Image}
 use Rattle.address.specs.declared.Fate.the-variants.{Keep, SendOn, Unsound}
 use Rattle.address.specs.Rules.{«at», span, buckets, hash, address, level, keeps, onward, fate, wrapped, adjusted, child, newborn, grown}
@@ -60,6 +60,19 @@ module _ (N : ℕ) (s : Image) where
       (λ l. ⊎-elim (λ m. omega (arith, level-rest a l m)) (λ m. omega (arith, level-born a m)) (below a (span N (s .level))))
       (below a (s .pointer))
 
+-- the fates are three
+never-kept : (b : ℕ) → SendOn b ≡ Keep → ⊥
+never-kept b e = let z : _≡_ {A = ℕ} 0 1 = cc in omega arith
+
+stop-kept : Unsound ≡ Keep → ⊥
+stop-kept e = let z : _≡_ {A = ℕ} 0 1 = cc in omega arith
+
+stop-sent : (b : ℕ) → Unsound ≡ SendOn b → ⊥
+stop-sent b e = let z : _≡_ {A = ℕ} 0 1 = cc in omega arith
+
+sent-same : (b c : ℕ) → SendOn b ≡ SendOn c → b ≡ c
+sent-same b c e = cc
+
 module _ (N a j C : ℕ) where
   pub keeps-is : keeps N a j C ≡ eqb (hash N j C) a
   unfolding keeps
@@ -98,6 +111,20 @@ module _ (N a j C : ℕ) where
   pub fate-send : (hash N j C ≡ a → ⊥) → fate N true a j C ≡ SendOn (onward N a j C)
   unfolding fate
   fate-send h = rw (keeps-no h)
+
+-- what a fate tells
+module _ (N a j C : ℕ) where
+  pub fate-kept : (sound : Bool) → fate N sound a j C ≡ Keep → (sound ≡ true) × (hash N j C ≡ a)
+  fate-kept true e = ⊎-elim (λ h. (refl, h)) (λ h. absurd (never-kept (onward N a j C) (sym (fate-send N a j C h) ∙ e))) (same (hash N j C) a)
+  fate-kept false e = absurd (stop-kept (sym (fate-unsound N a j C) ∙ e))
+
+  pub fate-sent : (sound : Bool) (b : ℕ) → fate N sound a j C ≡ SendOn b → (sound ≡ true) × (hash N j C ≡ a → ⊥) × (onward N a j C ≡ b)
+  fate-sent true b e = ⊎-elim (λ h. absurd (never-kept b (sym e ∙ fate-keep N a j C h))) (λ h. (refl, h, sent-same (onward N a j C) b (sym (fate-send N a j C h) ∙ e))) (same (hash N j C) a)
+  fate-sent false b e = absurd (stop-sent b (sym (fate-unsound N a j C) ∙ e))
+
+  pub fate-stopped : (sound : Bool) → fate N sound a j C ≡ Unsound → sound ≡ false
+  fate-stopped true e = ⊎-elim (λ h. absurd (stop-kept (sym e ∙ fate-keep N a j C h))) (λ h. absurd (stop-sent (onward N a j C) (sym e ∙ fate-send N a j C h))) (same (hash N j C) a)
+  fate-stopped false e = refl
 
 -- adjustment
 module _ (N : ℕ) (image : Image) (a j : ℕ) where

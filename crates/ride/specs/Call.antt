@@ -1,0 +1,119 @@
+-- Insert and search as document 01 has them: the refusals in their order, the route, the answer block, and what is left of file and table.
+pub mod Route
+use Prim.Native.Nat.{ℕ, zero, suc, _+_, _-_, _*_}
+use mathlib.Core.Path.{_≡_}
+use mathlib.Core.Bool.{Bool, true, false, cond, not, _&&_, _||_}
+use mathlib.Core.List.{List, [], _∷_, _++_}
+use lib.Dec.{leb, ltb, eqb}
+use lib.ListN.{length, getD, take, replicate}
+use Rattle.address.specs.Limits.{firstBuckets, noBucket}
+use Rattle.address.specs.declared.Image.{Image}
+use Rattle.address.specs.Rules.{buckets, address, level, route, imageAfter}
+use Rattle.layout.specs.Bytes.{leBytes}
+use Rattle.layout.specs.Replies.{Refusal, refuse, reply}
+use Rattle.bucket.specs.Region.{Ride, countOf, rideAt, ridesOf, slotOf, encode}
+use Rattle.client.specs.Table.{lengthSound, exists, imageOf, recordSound, withImage}
+use Rattle.file.specs.File.{capacityOf, slotsOf, stateOf, bucketsOf, headerSound, regionOf, bucketSoundIn, withRegion}
+
+-- 14: answer block not 24 bytes, or insert's payload not 14. Then 2, 3, 4, 5, 6, before any route.
+pub early : List ℕ → List ℕ → ℕ → List Refusal
+early file table client =
+    refuse 2 (not (lengthSound table))
+    ∷ refuse 3 (not (exists table client))
+    ∷ refuse 4 (not (recordSound table client))
+    ∷ refuse 5 (not (headerSound file))
+    ∷ refuse 6 (ltb (bucketsOf file) (buckets firstBuckets (imageOf table client)))
+    ∷ []
+
+-- The buckets up to and with the first at which a test fails.
+pub cut : (ℕ → Bool) → List ℕ → List ℕ
+cut test [] = []
+cut test (a ∷ way) = a ∷ cond (test a) (cut test way) []
+
+pub everyOn : (ℕ → Bool) → List ℕ → Bool
+everyOn test [] = true
+everyOn test (a ∷ way) = test a && everyOn test way
+
+-- The route of a key from a client's image: the rules' route; with 7 it ends at the unsound bucket.
+pub wayOf : List ℕ → Image → ℕ → List ℕ
+wayOf file image key = route firstBuckets (stateOf file) image key
+
+-- The key's own bucket: the slot that holds the key there, whether it is held, and whether the bucket holds S records.
+pub ownOf : List ℕ → ℕ → ℕ
+ownOf file key = address firstBuckets (stateOf file) key
+
+pub held : List ℕ → ℕ → Bool
+held file key = ltb (slotOf (regionOf file (ownOf file key)) key) (countOf (regionOf file (ownOf file key)))
+
+pub full : List ℕ → ℕ → Bool
+full file key = leb (slotsOf file) (countOf (regionOf file (ownOf file key)))
+
+-- The answer block: byte 0 the reply; byte 1 how many buckets the route has; bytes 2-7 their numbers in order, 65,535 where unused;
+-- byte 8 the flag; byte 9 zero; bytes 10-23 the payload a search found, otherwise zero.
+pub entry : List ℕ → ℕ → List ℕ
+entry way k = leBytes 2 (getD way k noBucket)
+
+pub block : ℕ → List ℕ → ℕ → List ℕ → List ℕ
+block r way flag payload = (r ∷ length way ∷ []) ++ entry way 0 ++ entry way 1 ++ entry way 2 ++ (flag ∷ 0 ∷ []) ++ payload
+
+pub noPayload : List ℕ
+noPayload = replicate 14 0
+
+-- What a key call leaves: its reply, the answer block, the client table and the file.
+pub record Outcome : Type 0 where
+  pub answer : ℕ
+  pub block : List ℕ
+  pub table : List ℕ
+  pub file : List ℕ
+
+-- The image after the call: adjusted with 0, 1, 8 and 9, and with nothing else.
+pub adjustedTable : List ℕ → List ℕ → ℕ → ℕ → List ℕ
+adjustedTable file table client key = withImage table client (imageAfter firstBuckets (stateOf file) (imageOf table client) key)
+
+-- A call up to its route: 14, 2 to 6, 7, else what it comes to once the key's own bucket is reached.
+pub routed : Bool → List ℕ → List ℕ → ℕ → ℕ → List ℕ → Outcome → Outcome
+routed fits file table client key answer reached =
+    let r = reply (early file table client) 0 in
+    let way = wayOf file (imageOf table client) key in
+    cond (not fits) (record { answer = 14; block = answer; table = table; file = file })
+    (cond (not (eqb r 0)) (record { answer = r; block = block r [] 0 noPayload; table = table; file = file })
+    (cond (not (everyOn (bucketSoundIn file) way)) (record { answer = 7; block = block 7 (cut (bucketSoundIn file) way) 0 noPayload; table = table; file = file })
+    reached))
+
+-- Search: 0 with the payload found, or 1.
+pub search : List ℕ → List ℕ → ℕ → ℕ → List ℕ → Outcome
+search file table client key answer =
+    let way = wayOf file (imageOf table client) key in
+    let region = regionOf file (ownOf file key) in
+    routed (eqb (length answer) 24) file table client key answer
+    (cond (held file key)
+    (record {
+      answer = 0;
+      block = block 0 way 0 (rideAt region (slotOf region key) .payload);
+      table = adjustedTable file table client key;
+      file = file;
+    })
+    (record { answer = 1; block = block 1 way 0 noPayload; table = adjustedTable file table client key; file = file }))
+
+-- Insert: 8 if the key is held, 9 if its bucket holds S records, else it is placed; the flag is 1 if more than b records are then held.
+pub inserted : List ℕ → ℕ → List ℕ → List ℕ
+inserted file key payload =
+    let a = ownOf file key in
+    let region = regionOf file a in
+    withRegion file a (encode (slotsOf file) (level firstBuckets (stateOf file) a) (ridesOf region ++ (record { key = key; payload = payload } ∷ [])))
+
+pub overfull : List ℕ → ℕ → ℕ
+overfull file key = cond (ltb (capacityOf file) (suc (countOf (regionOf file (ownOf file key))))) 1 0
+
+pub insert : List ℕ → List ℕ → ℕ → ℕ → List ℕ → List ℕ → Outcome
+insert file table client key payload answer =
+    let way = wayOf file (imageOf table client) key in
+    let after = adjustedTable file table client key in
+    routed (eqb (length answer) 24 && eqb (length payload) 14) file table client key answer
+    (cond (held file key) (record { answer = 8; block = block 8 way 0 noPayload; table = after; file = file })
+    (cond (full file key) (record { answer = 9; block = block 9 way 0 noPayload; table = after; file = file })
+    (record { answer = 0; block = block 0 way (overfull file key) noPayload; table = after; file = inserted file key payload })))
+
+-- Forwards are the route's buckets less one, or 0 without a route.
+pub forwardsIn : List ℕ → ℕ
+forwardsIn answer = cond (eqb (length answer) 24) (getD answer 1 0 - 1) 0
