@@ -27,7 +27,7 @@ pub struct CheckAnswer {
 }
 
 // The header of a file that has none.
-fn no_header() -> Header
+pub fn no_header() -> Header
     ensures { λ r. ⌜ r ≡ record { sound = false; state = record { level = 0; pointer = 0 }; capacity = 0; slots = 0; most = 0 } ⌝ }
 {
     let state = Image {
@@ -107,7 +107,7 @@ pub fn header_of(file: &[u8]) -> Header
 }
 
 // Where a region starts.
-fn start(slots: u32, bucket: u32) -> usize
+pub fn start(slots: u32, bucket: u32) -> usize
     requires { ⌜ (slots ≤ 64) × (bucket ≤ 4096) ⌝ }
     ensures { λ r. ⌜ (r ≡ startOf slots bucket) × (r ≤ 6324240) ⌝ }
 {

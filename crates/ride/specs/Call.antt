@@ -1,4 +1,8 @@
 -- Insert and search as document 01 has them: the refusals in their order, the route, the answer block, and what is left of file and table.
+pub mod After
+pub mod Block
+pub mod Open
+pub mod Replied
 pub mod Route
 use Prim.Native.Nat.{ℕ, zero, suc, _+_, _-_, _*_}
 use mathlib.Core.Path.{_≡_}
@@ -12,18 +16,18 @@ use Rattle.address.specs.Rules.{buckets, address, level, route, imageAfter}
 use Rattle.layout.specs.Bytes.{leBytes}
 use Rattle.layout.specs.Replies.{Refusal, refuse, reply}
 use Rattle.bucket.specs.Region.{Ride, countOf, rideAt, ridesOf, slotOf, encode}
-use Rattle.client.specs.Table.{lengthSound, exists, imageOf, recordSound, withImage}
+use Rattle.client.specs.Table.{imageOf, recordSound, tableRefusals, withImage}
+use Rattle.ride.specs.declared.Walk.{Walk}
 use Rattle.file.specs.File.{capacityOf, slotsOf, stateOf, bucketsOf, headerSound, regionOf, bucketSoundIn, withRegion}
 
 -- 14: answer block not 24 bytes, or insert's payload not 14. Then 2, 3, 4, 5, 6, before any route.
 pub early : List ℕ → List ℕ → ℕ → List Refusal
 early file table client =
-    refuse 2 (not (lengthSound table))
-    ∷ refuse 3 (not (exists table client))
-    ∷ refuse 4 (not (recordSound table client))
+    tableRefusals table client
+    ++ (refuse 4 (not (recordSound table client))
     ∷ refuse 5 (not (headerSound file))
     ∷ refuse 6 (ltb (bucketsOf file) (buckets firstBuckets (imageOf table client)))
-    ∷ []
+    ∷ [])
 
 -- The buckets up to and with the first at which a test fails.
 pub cut : (ℕ → Bool) → List ℕ → List ℕ
@@ -37,6 +41,10 @@ everyOn test (a ∷ way) = test a && everyOn test way
 -- The route of a key from a client's image: the rules' route; with 7 it ends at the unsound bucket.
 pub wayOf : List ℕ → Image → ℕ → List ℕ
 wayOf file image key = route firstBuckets (stateOf file) image key
+
+-- The buckets that a walk has noted, at most three.
+pub noted : Walk → List ℕ
+noted walk = take (walk .count) (walk .first ∷ walk .second ∷ walk .third ∷ [])
 
 -- The key's own bucket: the slot that holds the key there, whether it is held, and whether the bucket holds S records.
 pub ownOf : List ℕ → ℕ → ℕ

@@ -5,14 +5,22 @@ use file::Header;
 ghost use mathlib.Core.Path.{_≡_};
 ghost use mathlib.Core.Bool.{true};
 ghost use mathlib.Core.List.{_++_, _∷_, []};
-ghost use Prim.Native.Nat.{_+_, _≤_, _<_};
+ghost use Prim.Native.Nat.{_+_, _*_, _≤_, _<_};
 ghost use lib.ListN.{length, take};
-ghost use Rattle.address.specs.Rules.{Formed, NotAhead};
-ghost use Rattle.bucket.specs.Region.{countOf, ridesOf, keysOf};
-ghost use Rattle.file.specs.File.{stateOf, regionOf};
+ghost use lib.Dec.{eqb};
+ghost use Rattle.address.specs.Room.{ImageRoom};
+ghost use Rattle.address.specs.Rules.{Formed, NotAhead, level, adjusted};
+ghost use Rattle.client.specs.Table.{withImage};
+ghost use Rattle.bucket.specs.Region.{countOf, ridesOf, keysOf, slotOf};
+ghost use Rattle.file.specs.File.{stateOf, bucketsOf, startOf, regionOf, bucketSoundIn};
 ghost use Rattle.file.specs.File.Judge.{Known};
-ghost use Rattle.ride.specs.Call.{wayOf};
-ghost use Rattle.ride.specs.Call.Route.{noted, Walked};
+ghost use Rattle.layout.specs.Replies.{reply};
+ghost use Rattle.ride.specs.Call.{Outcome, search, wayOf, early, noted, block, noPayload};
+ghost use Rattle.ride.specs.Call.After.{Reached};
+ghost use Rattle.ride.specs.Call.Block.{shown};
+ghost use Rattle.ride.specs.Call.Open.{Opening};
+ghost use Rattle.ride.specs.Call.Replied.{searched};
+ghost use Rattle.ride.specs.Call.Route.{Walked};
 
 // The buckets that a key has met, at most three, the last of them, and whether all were sound.
 pub struct Walk {
@@ -59,6 +67,18 @@ fn note(walk: Walk, bucket: u32) -> Walk
     }
 }
 
+// A walk that has met no bucket.
+fn no_walk() -> Walk
+    ensures { λ r. ⌜ r ≡ record { count = 0; first = 65535; second = 65535; third = 65535 } ⌝ }
+{
+    Walk {
+        count: 0,
+        first: address::NO_BUCKET,
+        second: address::NO_BUCKET,
+        third: address::NO_BUCKET,
+    }
+}
+
 // Walks a key's route from a client's image until a bucket keeps it or is unsound; the last bucket's keys are then gathered.
 pub fn walk_route(file: &[u8], header: Header, image: Image, key: u64, keys: &mut [u64]) -> End
     requires { ⌜ Known (now file) header × (image .level ≤ 12) × Formed 1 image × NotAhead 1 (stateOf (now file)) image × (length (now keys) ≡ 64) ⌝ }
@@ -97,4 +117,188 @@ pub fn walk_route(file: &[u8], header: Header, image: Image, key: u64, keys: &mu
             }
         }
     }
+}
+
+// A call's start: its refusal before any route, or 0 with the header and the client's image.
+pub struct Opened {
+    pub reply: u8,
+    pub header: Header,
+    pub image: Image,
+}
+
+// A refused start.
+fn not_opened(reply: u8) -> Opened
+    ensures { λ r. ⌜ r .reply ≡ reply ⌝ }
+{
+    let header = file::no_header();
+    let image = Image {
+        level: 0,
+        pointer: 0,
+    };
+    Opened {
+        reply,
+        header,
+        image,
+    }
+}
+
+// Judges table, client, record, header and image in the replies' order: 2, 3, 4, 5, 6, or 0.
+pub fn open(file: &[u8], table: &[u8], client: u64) -> Opened
+    ensures { λ r. ⌜ (r .reply ≡ reply (early (now (file .entry)) (now (table .entry)) client) 0) × (r .reply ≡ 0 → Opening (now (file .entry)) (now (table .entry)) client (r .header) (r .image)) ⌝ }
+{
+    let refused = client::table_refusal(table, client);
+    if refused != 0 {
+        return not_opened(refused);
+    }
+    let record = client::client_of(table, client);
+    if !record.sound {
+        return not_opened(4);
+    }
+    let header = file::header_of(file);
+    if !header.sound {
+        return not_opened(5);
+    }
+    let image = record.image;
+    let state = header.state;
+    if address::buckets(address::FIRST_BUCKETS, state)
+        < address::buckets(address::FIRST_BUCKETS, image)
+    {
+        return not_opened(6);
+    }
+    Opened {
+        reply: 0,
+        header,
+        image,
+    }
+}
+
+// A route entry of the answer block.
+fn entry(count: u32, place: u32, bucket: u32) -> u32
+    ensures { λ r. ⌜ r ≡ shown count place bucket ⌝ }
+{
+    if place < count {
+        return bucket;
+    }
+    address::NO_BUCKET
+}
+
+// Writes an answer block without a payload.
+fn put_block(answer: &mut [u8], reply: u8, walk: Walk, flag: u8)
+    requires { ⌜ (length (now answer) ≡ 24) × (walk .count ≤ 3) ⌝ }
+    ensures { λ _. ⌜ now (answer .exit) ≡ block reply (noted walk) flag noPayload ⌝ }
+{
+    let count = walk.count;
+    let x = entry(count, 0, walk.first);
+    let y = entry(count, 1, walk.second);
+    let z = entry(count, 2, walk.third);
+    let source = [
+        reply,
+        count as u8,
+        (x % 256) as u8,
+        (x / 256 % 256) as u8,
+        (y % 256) as u8,
+        (y / 256 % 256) as u8,
+        (z % 256) as u8,
+        (z / 256 % 256) as u8,
+        flag,
+        0,
+        0,
+        0,
+        0,
+        0,
+        0,
+        0,
+        0,
+        0,
+        0,
+        0,
+        0,
+        0,
+        0,
+        0,
+    ];
+    layout::put(answer, 0, &source);
+}
+
+// Writes a client's image after its first bucket did or did not keep the key.
+fn adjust(table: &mut [u8], client: u64, header: Header, image: Image, walk: Walk)
+    requires { ⌜ (8 * client + 8 ≤ length (now table)) × ImageRoom 1 (header .state) × (walk .first ≤ 4096) × (adjusted 1 image (walk .first) (level 1 (header .state) (walk .first)) (eqb (walk .count) 1) .level < 256) × (adjusted 1 image (walk .first) (level 1 (header .state) (walk .first)) (eqb (walk .count) 1) .pointer < 65536) ⌝ }
+    ensures { λ _. ⌜ now (table .exit) ≡ withImage (now (table .entry)) client (adjusted 1 image (walk .first) (level 1 (header .state) (walk .first)) (eqb (walk .count) 1)) ⌝ }
+{
+    let first = walk.first;
+    let level = address::level_of(address::FIRST_BUCKETS, header.state, first);
+    let next = address::adjusted(address::FIRST_BUCKETS, image, first, level, walk.count == 1);
+    client::put_image(table, client, next);
+}
+
+// A bucket's place in the file, its count, and the slot that holds a key there, or the count.
+struct Slot {
+    at: usize,
+    count: usize,
+    place: usize,
+}
+
+// Looks a key up in a sound bucket whose keys were gathered.
+fn look_up(file: &[u8], header: Header, bucket: u32, key: u64, keys: &[u64]) -> Slot
+    requires { ⌜ Known (now file) header × (bucket < bucketsOf (now file)) × (bucketSoundIn (now file) bucket ≡ true) × (length (now keys) ≡ 64) × (take (countOf (regionOf (now file) bucket)) (now keys) ≡ keysOf (ridesOf (regionOf (now file) bucket))) ⌝ }
+    ensures { λ r. ⌜ (r .at ≡ startOf (header .slots) bucket) × (r .count ≡ countOf (regionOf (now (file .entry)) bucket)) × (r .place ≡ slotOf (regionOf (now (file .entry)) bucket) key) ⌝ }
+{
+    let at = file::start(header.slots, bucket);
+    let count = layout::read2(file, at + 4) as usize;
+    Slot {
+        at,
+        count,
+        place: bucket::find(keys, count, key),
+    }
+}
+
+// A search that reached the key's own bucket: the payload found, or none.
+fn finish_search(
+    file: &[u8],
+    table: &mut [u8],
+    client: u64,
+    key: u64,
+    answer: &mut [u8],
+    opened: Opened,
+    end: End,
+    keys: &[u64],
+) -> u8
+    requires { ⌜ (length (now answer) ≡ 24) × Reached (now file) (now table) client key (opened .header) (opened .image) (end .walk) (end .bucket) (now keys) ⌝ }
+    ensures { λ r. ⌜ record { answer = r; block = now (answer .exit); table = now (table .exit); file = now (file .entry) } ≡ searched (now (file .entry)) (now (table .entry)) client key ⌝ }
+{
+    let header = opened.header;
+    let walk = end.walk;
+    let slot = look_up(file, header, end.bucket, key, keys);
+    adjust(table, client, header, opened.image, walk);
+    if slot.place < slot.count {
+        put_block(answer, 0, walk, 0);
+        let from = slot.at + (18 + 24 * slot.place);
+        let to = from + 14;
+        layout::put(answer, 10, &file[from..to]);
+        return 0;
+    }
+    put_block(answer, 1, walk, 0);
+    1
+}
+
+// Searches a key through a client: 14, 2 to 6, 7, else 0 with its payload or 1.
+pub fn search(file: &[u8], table: &mut [u8], client: u64, key: u64, answer: &mut [u8]) -> u8
+    ensures { λ r. ⌜ record { answer = r; block = now (answer .exit); table = now (table .exit); file = now (file .entry) } ≡ search (now (file .entry)) (now (table .entry)) client key (now (answer .entry)) ⌝ }
+{
+    if answer.len() != 24 {
+        return 14;
+    }
+    let opened = open(file, table, client);
+    let refused = opened.reply;
+    if refused != 0 {
+        put_block(answer, refused, no_walk(), 0);
+        return refused;
+    }
+    let mut keys = [0u64; 64];
+    let end = walk_route(file, opened.header, opened.image, key, &mut keys);
+    if !end.sound {
+        put_block(answer, 7, end.walk, 0);
+        return 7;
+    }
+    finish_search(file, table, client, key, answer, opened, end, &keys)
 }

@@ -27,6 +27,10 @@ pub key-is : (region : List ℕ) (k : ℕ) → keyAt region k ≡ leAt 8 region 
 unfolding keyAt
 key-is region k = refl
 
+pub ride-payload : (region : List ℕ) (k : ℕ) → rideAt region k .payload ≡ part (slotAt k + 10) 14 region
+unfolding rideAt
+ride-payload region k = refl
+
 pub used-is : (region : List ℕ) (k : ℕ) → slotUsed region k ≡ marked region (8 + 24 * k) (76 ∷ 82 ∷ [])
 unfolding slotUsed
 used-is region k = refl

@@ -16,7 +16,7 @@ use Rattle.layout.specs.Bytes.{Bytes, byteAt, leAt, leBytes, marked, allBelow, 
 use Rattle.layout.specs.Bytes.Tests.{and-left, and-right, and-both}
 use Rattle.layout.specs.Bytes.Edit.{edit-next}
 use Rattle.layout.specs.Bytes.Numbers.{leBytes-two}
-use Rattle.layout.specs.Replies.{refuse, reply, reply-none, reply-here, reply-past}
+use Rattle.layout.specs.Replies.{refuse, reply, reply-is, reply-none, reply-here, reply-past}
 use Rattle.client.specs.Table.{clientMark, lengthSound, exists, imageOf, recordFormed, imageFormed, recordSound, tableRefusals, imageBytes, withImage, Joined, join}
 
 module _ (table : List ℕ) (client : ℕ) where
@@ -32,6 +32,28 @@ module _ (table : List ℕ) (client : ℕ) where
   pub not-refused : lengthSound table ≡ true → client < length table / 8 → reply (tableRefusals table client) 0 ≡ 0
   unfolding tableRefusals exists
   not-refused h l = reply-past 2 _ _ 0 (ap not h) ∙ reply-past 3 _ _ 0 (ap not (lt-ltb client (length table / 8) l)) ∙ reply-none 0
+
+  two-tests : (done : ℕ) → reply (tableRefusals table client) done ≡ cond (not (lengthSound table)) 2 (cond (not (exists table client)) 3 done)
+  unfolding tableRefusals
+  two-tests done = reply-is 2 _ _ done
+      ∙ ap (λ (n : ℕ). cond (not (lengthSound table)) 2 n) (reply-is 3 (not (exists table client)) [] done ∙ ap (λ (n : ℕ). cond (not (exists table client)) 3 n) (reply-none done))
+
+  -- a table that is refused is refused whatever comes after, and one that is not passes it on
+  pub table-refused : (r : ℕ) → reply (tableRefusals table client) 0 ≡ r → (r ≡ 0 → ⊥) → (done : ℕ) → reply (tableRefusals table client) done ≡ r
+  table-refused r e some done = two-tests done ∙ go (lengthSound table) (exists table client) (sym (two-tests 0) ∙ e)
+    where
+      go : (l x : Bool) → cond (not l) 2 (cond (not x) 3 0) ≡ r → cond (not l) 2 (cond (not x) 3 done) ≡ r
+      go false x e = e
+      go true false e = e
+      go true true e = absurd (some (sym e))
+
+  pub table-passes : reply (tableRefusals table client) 0 ≡ 0 → (done : ℕ) → reply (tableRefusals table client) done ≡ done
+  table-passes e done = two-tests done ∙ go (lengthSound table) (exists table client) (sym (two-tests 0) ∙ e)
+    where
+      go : (l x : Bool) → _≡_ {A = ℕ} (cond (not l) 2 (cond (not x) 3 0)) 0 → cond (not l) 2 (cond (not x) 3 done) ≡ done
+      go false x e = absurd (omega arith)
+      go true false e = absurd (omega arith)
+      go true true e = refl
 
   pub length-flag : (flag : Bool) → flag ≡ (ltb 0 (length table) && leb (length table) 2048 && eqb (length table % 8) 0) → flag ≡ lengthSound table
   unfolding lengthSound

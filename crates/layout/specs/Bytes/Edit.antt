@@ -267,3 +267,19 @@ part-end k e xs h = ap (λ (n : ℕ). take n (drop k xs)) none
   where
     none : e - k ≡ 0
     none = omega arith
+
+-- a write over all of a list
+pub edit-all : (ys xs : List ℕ) → length ys ≡ length xs → edit 0 ys xs ≡ ys
+edit-all ys xs same = edit-is 0 ys xs ∙ ap (λ (l : List ℕ). ys ++ l) (ap (λ (n : ℕ). drop n xs) end ∙ drop-length xs) ∙ append-nil ys
+  where
+    end : 0 + length ys ≡ length xs
+    end = omega arith
+
+-- a part of a part
+pub part-part : (s m p n : ℕ) (xs : List ℕ) → p + n ≤ m → s + m ≤ length xs → part p n (part s m xs) ≡ part (s + p) n xs
+part-part s m p n xs inside fits = same-bytes (part p n (part s m xs)) (part (s + p) n xs) (long ∙ sym (length-part (s + p) n xs (omega arith)))
+    (λ k h. part-at p n (part s m xs) k (omega (arith, long)) ∙ part-at s m xs (p + k) (omega (arith, long))
+    ∙ ap (λ (i : ℕ). getD xs i 0) (sym (add-assoc s p k)) ∙ sym (part-at (s + p) n xs k (omega (arith, long))))
+  where
+    long : length (part p n (part s m xs)) ≡ n
+    long = length-part p n (part s m xs) (omega (arith, length-part s m xs fits))

@@ -18,15 +18,11 @@ use Rattle.layout.specs.Bytes.Tests.{and-both, and-left, and-right}
 use Rattle.file.specs.File.{stateOf, bucketsOf, bucketSoundIn}
 use Rattle.file.specs.File.Judge.{buckets-of}
 use Rattle.ride.specs.declared.Walk.{Walk}
-use Rattle.ride.specs.Call.{cut, everyOn, wayOf, ownOf}
+use Rattle.ride.specs.Call.{cut, everyOn, wayOf, ownOf, noted}
 
 -- a file has a first bucket
 some-first : 0 < firstBuckets
 some-first = omega arith
-
--- the buckets that a walk has noted
-pub noted : Walk → List ℕ
-noted walk = take (walk .count) (walk .first ∷ walk .second ∷ walk .third ∷ [])
 
 -- a cut passes over buckets that pass, and stops at one that fails
 pub cut-past : (test : ℕ → Bool) (xs ys : List ℕ) → everyOn test xs ≡ true → cut test (xs ++ ys) ≡ xs ++ cut test ys
@@ -92,6 +88,8 @@ pub record Walked (file : List ℕ) (key : ℕ) (way : List ℕ) (walk : Walk) (
   pub some : 1 ≤ walk .count
   pub sound : all ≡ everyOn (bucketSoundIn file) way
   pub met : noted walk ≡ cut (bucketSoundIn file) way
+  pub there : a < bucketsOf file
+  pub good : all ≡ true → bucketSoundIn file a ≡ true
   pub own : all ≡ true → a ≡ ownOf file key
   pub whole : all ≡ true → noted walk ≡ way
 
@@ -143,6 +141,8 @@ module _ (file : List ℕ) (key : ℕ) (formed : Formed firstBuckets (stateOf fi
           sound = sym (ap (everyOn (bucketSoundIn file)) is ∙ every-past (bucketSoundIn file) (noted walk) (a ∷ rest) (so .fine) ∙ every-fails (bucketSoundIn file) a rest bad);
           met = noting ∙ sym (ap (cut (bucketSoundIn file)) is ∙ cut-past (bucketSoundIn file) (noted walk) (a ∷ rest) (so .fine)
               ∙ ap (λ (l : List ℕ). noted walk ++ l) (cut-fails (bucketSoundIn file) a rest bad));
+          there = walking-exists;
+          good = λ h. absurd (false≢true h);
           own = λ h. absurd (false≢true h);
           whole = λ h. absurd (false≢true h);
         }
@@ -158,6 +158,8 @@ module _ (file : List ℕ) (key : ℕ) (formed : Formed firstBuckets (stateOf fi
           sound = sym (ap (everyOn (bucketSoundIn file)) is ∙ every-past (bucketSoundIn file) (noted walk) (a ∷ []) (so .fine) ∙ every-one (bucketSoundIn file) a good);
           met = noting ∙ sym (ap (cut (bucketSoundIn file)) is ∙ cut-past (bucketSoundIn file) (noted walk) (a ∷ []) (so .fine)
               ∙ ap (λ (l : List ℕ). noted walk ++ l) (cut-one (bucketSoundIn file) a));
+          there = walking-exists;
+          good = λ h. good;
           own = λ h. sym (own-is file key a (address-own firstBuckets some-first (stateOf file) formed a key
               (omega (arith, walking-exists, buckets-of file, buckets-is firstBuckets (stateOf file))) .1 keeps));
           whole = λ h. noting ∙ sym is;

@@ -1,0 +1,70 @@
+-- The answer block's bytes, as they are written: 24 of them at once, and then a payload over the last 14.
+use Prim.Native.Nat.{ℕ, zero, suc, _+_, _*_, _/_, _%_, _≤_, _<_}
+use mathlib.Core.Path.{_≡_, refl, sym, ap, ap₂, _∙_}
+use mathlib.Core.Bool.{Bool, true, false, cond}
+use mathlib.Core.List.{List, [], _∷_, _++_, append-nil}
+use native.Mathlib.Omega.{arith}
+use lib.Dec.{ltb}
+use lib.ListN.{length, getD, take, drop, replicate}
+use Rattle.address.specs.Limits.{noBucket}
+use Rattle.layout.specs.Bytes.{leBytes, edit}
+use Rattle.layout.specs.Bytes.Edit.{edit-seam}
+use Rattle.layout.specs.Bytes.Numbers.{leBytes-two}
+use Rattle.ride.specs.declared.Walk.{Walk}
+use Rattle.ride.specs.Call.{entry, block, noPayload, noted}
+
+-- a route entry, chosen by the count
+abbrev pub shown : ℕ → ℕ → ℕ → ℕ
+shown count k bucket = cond (ltb k count) bucket noBucket
+
+module _ (walk : Walk) where
+  by-count : (P : List ℕ → ℕ → Type 0) → walk .count ≤ 3
+      → P [] 0 → P (walk .first ∷ []) 1 → P (walk .first ∷ walk .second ∷ []) 2 → P (walk .first ∷ walk .second ∷ walk .third ∷ []) 3 → P (noted walk) (walk .count)
+  unfolding noted
+  by-count P few p0 p1 p2 p3 = go (walk .count) few
+    where
+      go : (n : ℕ) → n ≤ 3 → P (take n (walk .first ∷ walk .second ∷ walk .third ∷ [])) n
+      go zero h = p0
+      go (suc zero) h = p1
+      go (suc (suc zero)) h = p2
+      go (suc (suc (suc zero))) h = p3
+      go (suc (suc (suc (suc n)))) h = absurd (omega arith)
+
+  pub noted-length : walk .count ≤ 3 → length (noted walk) ≡ walk .count
+  noted-length few = by-count (λ l n. length l ≡ n) few refl refl refl refl
+
+  pub noted-first : walk .count ≤ 3 → getD (noted walk) 0 noBucket ≡ shown (walk .count) 0 (walk .first)
+  noted-first few = by-count (λ l n. getD l 0 noBucket ≡ shown n 0 (walk .first)) few refl refl refl refl
+
+  pub noted-second : walk .count ≤ 3 → getD (noted walk) 1 noBucket ≡ shown (walk .count) 1 (walk .second)
+  noted-second few = by-count (λ l n. getD l 1 noBucket ≡ shown n 1 (walk .second)) few refl refl refl refl
+
+  pub noted-third : walk .count ≤ 3 → getD (noted walk) 2 noBucket ≡ shown (walk .count) 2 (walk .third)
+  noted-third few = by-count (λ l n. getD l 2 noBucket ≡ shown n 2 (walk .third)) few refl refl refl refl
+
+  -- the 24 bytes of a block without a payload
+  pub block-source : (r flag x y z : ℕ) → walk .count ≤ 3 → x ≡ shown (walk .count) 0 (walk .first) → y ≡ shown (walk .count) 1 (walk .second) → z ≡ shown (walk .count) 2 (walk .third)
+      → r ∷ walk .count ∷ x % 256 ∷ x / 256 % 256 ∷ y % 256 ∷ y / 256 % 256 ∷ z % 256 ∷ z / 256 % 256 ∷ flag ∷ 0 ∷ replicate 14 0 ≡ block r (noted walk) flag noPayload
+  unfolding block entry noPayload
+  block-source r flag x y z few ex ey ez = sym ((λ i. (r ∷ noted-length few i ∷ []) ++ leBytes 2 ((noted-first few ∙ sym ex) i) ++ leBytes 2 ((noted-second few ∙ sym ey) i)
+      ++ leBytes 2 ((noted-third few ∙ sym ez) i) ++ (flag ∷ 0 ∷ []) ++ replicate 14 0)
+      ∙ (λ i. (r ∷ walk .count ∷ []) ++ leBytes-two x i ++ leBytes-two y i ++ leBytes-two z i ++ (flag ∷ 0 ∷ []) ++ replicate 14 0))
+
+-- a payload over the zeros
+pub block-payload : (r flag : ℕ) (way payload : List ℕ) → length payload ≡ 14 → edit 10 payload (block r way flag noPayload) ≡ block r way flag payload
+unfolding block entry noPayload
+block-payload r flag way payload long =
+    edit-seam prefix payload (replicate 14 0) 10 ten
+    ∙ ap (λ (n : ℕ). prefix ++ payload ++ drop n (replicate {A = ℕ} 14 0)) long
+    ∙ append-nil (prefix ++ payload)
+  where
+    prefix : List ℕ
+    prefix = (r ∷ length way ∷ []) ++ entry way 0 ++ entry way 1 ++ entry way 2 ++ (flag ∷ 0 ∷ [])
+
+    ten : length prefix ≡ 10
+    ten = rw (leBytes-two (getD way 0 noBucket), leBytes-two (getD way 1 noBucket), leBytes-two (getD way 2 noBucket))
+
+-- a walk that has met no bucket
+pub noted-none : (walk : Walk) → walk .count ≡ 0 → noted walk ≡ []
+unfolding noted
+noted-none walk e = rw e

@@ -1,0 +1,104 @@
+-- The outcome of a key call by its cases, in the replies' order; and no second outcome fits.
+use Prim.Native.Nat.{ℕ, suc, _+_, _≤_, _<_}
+use mathlib.Core.Path.{_≡_, refl, sym, ap, ap₂, _∙_}
+use mathlib.Core.Bool.{Bool, true, false, cond, not, _&&_}
+use mathlib.Core.List.{List, []}
+use borrow.Author.Tests.{eq-eqb, ne-eqb, lt-ltb, le-ltb, le-leb, lt-leb}
+use lib.Dec.{leb, ltb, eqb}
+use lib.ListN.{length}
+use Rattle.address.specs.declared.Image.{Image}
+use Rattle.layout.specs.Replies.{reply}
+use Rattle.bucket.specs.Region.{countOf, rideAt, slotOf}
+use Rattle.client.specs.Table.{imageOf}
+use Rattle.file.specs.File.{slotsOf, regionOf, bucketSoundIn}
+use Rattle.ride.specs.Call.{Outcome, early, cut, everyOn, wayOf, ownOf, held, full, block, noPayload, adjustedTable, routed, search, insert, inserted, overfull}
+
+module _ (file table : List ℕ) (client key : ℕ) (answer : List ℕ) (reached : Outcome) where
+  pub routed-block : record { answer = 14; block = answer; table = table; file = file } ≡ routed false file table client key answer reached
+  unfolding routed
+  routed-block = refl
+
+  pub routed-early : (r : ℕ) → r ≡ reply (early file table client) 0 → (r ≡ 0 → ⊥)
+      → record { answer = r; block = block r [] 0 noPayload; table = table; file = file } ≡ routed true file table client key answer reached
+  unfolding routed
+  routed-early r e some = rw (ne-eqb (reply (early file table client) 0) 0 (λ z. some (e ∙ z))) (λ i. record { answer = e i; block = block (e i) [] 0 noPayload; table = table; file = file })
+
+  module _ (none : reply (early file table client) 0 ≡ 0) where
+    pub routed-stopped : (way : List ℕ) → way ≡ cut (bucketSoundIn file) (wayOf file (imageOf table client) key) → everyOn (bucketSoundIn file) (wayOf file (imageOf table client) key) ≡ false
+        → record { answer = 7; block = block 7 way 0 noPayload; table = table; file = file } ≡ routed true file table client key answer reached
+    unfolding routed
+    routed-stopped way ew bad = rw (eq-eqb (reply (early file table client) 0) 0 none, bad) (λ i. record { answer = 7; block = block 7 (ew i) 0 noPayload; table = table; file = file })
+
+    pub routed-reached : everyOn (bucketSoundIn file) (wayOf file (imageOf table client) key) ≡ true → reached ≡ routed true file table client key answer reached
+    unfolding routed
+    routed-reached good = rw (eq-eqb (reply (early file table client) 0) 0 none, good)
+
+-- the outcomes of a search that reached the key's own bucket, and of an insert that did
+abbrev pub searched : List ℕ → List ℕ → ℕ → ℕ → Outcome
+searched file table client key =
+    cond (held file key)
+    (record {
+      answer = 0;
+      block = block 0 (wayOf file (imageOf table client) key) 0 (rideAt (regionOf file (ownOf file key)) (slotOf (regionOf file (ownOf file key)) key) .payload);
+      table = adjustedTable file table client key;
+      file = file;
+    })
+    (record { answer = 1; block = block 1 (wayOf file (imageOf table client) key) 0 noPayload; table = adjustedTable file table client key; file = file })
+
+pub search-is : (file table : List ℕ) (client key : ℕ) (answer : List ℕ) (fits : Bool) → eqb (length answer) 24 ≡ fits
+    → routed fits file table client key answer (searched file table client key) ≡ search file table client key answer
+unfolding search
+search-is file table client key answer fits e = ap (λ (t : Bool). routed t file table client key answer (searched file table client key)) (sym e)
+
+pub search-single : (file table : List ℕ) (client key : ℕ) (answer : List ℕ) (o p : Outcome)
+    → o ≡ search file table client key answer → p ≡ search file table client key answer → o ≡ p
+search-single file table client key answer o p eo ep = eo ∙ sym ep
+
+abbrev pub placed : List ℕ → List ℕ → ℕ → ℕ → List ℕ → Outcome
+placed file table client key payload =
+    cond (held file key) (record { answer = 8; block = block 8 (wayOf file (imageOf table client) key) 0 noPayload; table = adjustedTable file table client key; file = file })
+    (cond (full file key) (record { answer = 9; block = block 9 (wayOf file (imageOf table client) key) 0 noPayload; table = adjustedTable file table client key; file = file })
+    (record {
+      answer = 0;
+      block = block 0 (wayOf file (imageOf table client) key) (overfull file key) noPayload;
+      table = adjustedTable file table client key;
+      file = inserted file key payload;
+    }))
+
+pub insert-is : (file table : List ℕ) (client key : ℕ) (payload answer : List ℕ) (fits : Bool) → (eqb (length answer) 24 && eqb (length payload) 14) ≡ fits
+    → routed fits file table client key answer (placed file table client key payload) ≡ insert file table client key payload answer
+unfolding insert
+insert-is file table client key payload answer fits e = ap (λ (t : Bool). routed t file table client key answer (placed file table client key payload)) (sym e)
+
+pub insert-single : (file table : List ℕ) (client key : ℕ) (payload answer : List ℕ) (o p : Outcome)
+    → o ≡ insert file table client key payload answer → p ≡ insert file table client key payload answer → o ≡ p
+insert-single file table client key payload answer o p eo ep = eo ∙ sym ep
+
+-- held and full, by the own bucket's slots
+module _ (file : List ℕ) (key a : ℕ) (own : a ≡ ownOf file key) where
+  pub held-is : (k n : ℕ) → k ≡ slotOf (regionOf file a) key → n ≡ countOf (regionOf file a) → ltb k n ≡ held file key
+  unfolding held
+  held-is k n ek en = ap₂ ltb (ek ∙ ap (λ (x : ℕ). slotOf (regionOf file x) key) own) (en ∙ ap (λ (x : ℕ). countOf (regionOf file x)) own)
+
+  pub full-is : (S n : ℕ) → S ≡ slotsOf file → n ≡ countOf (regionOf file a) → leb S n ≡ full file key
+  unfolding full
+  full-is S n eS en = ap₂ leb eS (en ∙ ap (λ (x : ℕ). countOf (regionOf file x)) own)
+
+-- a search's two outcomes, and an insert's three, from what was written
+module _ (file table : List ℕ) (client key : ℕ) (way answer after : List ℕ) (ew : way ≡ wayOf file (imageOf table client) key) (et : after ≡ adjustedTable file table client key) where
+  pub search-found : held file key ≡ true → (payload : List ℕ) → payload ≡ rideAt (regionOf file (ownOf file key)) (slotOf (regionOf file (ownOf file key)) key) .payload
+      → answer ≡ block 0 way 0 payload → record { answer = 0; block = answer; table = after; file = file } ≡ searched file table client key
+  search-found h payload ep ea = rw h (λ i. record { answer = 0; block = (ea ∙ ap₂ (λ (w p : List ℕ). block 0 w 0 p) ew ep) i; table = et i; file = file })
+
+  pub search-absent : held file key ≡ false → answer ≡ block 1 way 0 noPayload → record { answer = 1; block = answer; table = after; file = file } ≡ searched file table client key
+  search-absent h ea = rw h (λ i. record { answer = 1; block = (ea ∙ ap (λ (w : List ℕ). block 1 w 0 noPayload) ew) i; table = et i; file = file })
+
+  pub insert-held : (payload : List ℕ) → held file key ≡ true → answer ≡ block 8 way 0 noPayload → record { answer = 8; block = answer; table = after; file = file } ≡ placed file table client key payload
+  insert-held payload h ea = rw h (λ i. record { answer = 8; block = (ea ∙ ap (λ (w : List ℕ). block 8 w 0 noPayload) ew) i; table = et i; file = file })
+
+  pub insert-full : (payload : List ℕ) → held file key ≡ false → full file key ≡ true → answer ≡ block 9 way 0 noPayload → record { answer = 9; block = answer; table = after; file = file } ≡ placed file table client key payload
+  insert-full payload h l ea = rw (h, l) (λ i. record { answer = 9; block = (ea ∙ ap (λ (w : List ℕ). block 9 w 0 noPayload) ew) i; table = et i; file = file })
+
+  pub insert-done : (payload : List ℕ) → held file key ≡ false → full file key ≡ false → (flag : ℕ) → flag ≡ overfull file key → answer ≡ block 0 way flag noPayload
+      → (next : List ℕ) → next ≡ inserted file key payload → record { answer = 0; block = answer; table = after; file = next } ≡ placed file table client key payload
+  insert-done payload h l flag ef ea next en = rw (h, l) (λ i. record { answer = 0; block = (ea ∙ ap₂ (λ (w : List ℕ) (f : ℕ). block 0 w f noPayload) ew ef) i; table = et i; file = en i })
