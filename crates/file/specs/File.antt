@@ -12,11 +12,10 @@ use lib.Dec.{leb, ltb, eqb}
 use lib.ListN.{length, replicate}
 use Rattle.address.specs.Limits.{firstBuckets, noBucket, mostBuckets, mostSlots}
 use Rattle.address.specs.declared.Image.{Image}
-use Rattle.address.specs.Rules.{«at», span, buckets, keeps, newborn, grown}
+use Rattle.address.specs.Rules.{«at», span, buckets, level, keeps, newborn, grown}
 use Rattle.layout.specs.Bytes.{byteAt, leAt, leBytes, marked, allBelow, allZero, firstFrom, edit, part}
-use Rattle.layout.specs.Replies.{refuse, reply}
 use Rattle.file.specs.declared.Header.{Header}
-use Rattle.bucket.specs.Region.{slotAt, countOf, ridesOf, bucketSound, encode, kept}
+use Rattle.bucket.specs.Region.{Ride, slotAt, countOf, ridesOf, bucketSound, encode, kept}
 
 -- The mark 4C 46 of a file.
 abbrev pub fileMark : List ℕ
@@ -87,6 +86,10 @@ regionSound file a = cond (ltb a (bucketsOf file)) (bucketSoundIn file a) (allZe
 
 pub fileSound : List ℕ → Bool
 fileSound file = headerSound file && allBelow (regionSound file) (mostOf file)
+
+-- The file with one ride more in a bucket, behind those that it holds.
+pub withRide : List ℕ → ℕ → Ride → List ℕ
+withRide file a ride = withRegion file a (encode (slotsOf file) (level firstBuckets (stateOf file) a) (ridesOf (regionOf file a) ++ (ride ∷ [])))
 
 -- Check: 5, 7 (lowest region; with other replies the number is 65,535).
 pub record Checked : Type 0 where

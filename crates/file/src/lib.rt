@@ -5,11 +5,11 @@ ghost use mathlib.Core.Bool.{true, false};
 ghost use Prim.Native.Nat.{_+_, _*_, _≤_, _<_};
 ghost use lib.ListN.{length, take, set};
 ghost use Rattle.layout.specs.Bytes.{edit, leBytes};
-ghost use Rattle.bucket.specs.Region.{slotAt, countOf, ridesOf, keysOf, encode, kept};
+ghost use Rattle.bucket.specs.Region.{Ride, slotAt, countOf, ridesOf, keysOf, encode, kept};
 ghost use Rattle.address.specs.Rules.{keeps, newborn};
 ghost use Rattle.file.specs.File.Judge.{Known};
 ghost use Rattle.file.specs.File.Split.{Refill};
-ghost use Rattle.file.specs.File.{Checked, Created, Splitted, stateOf, divided, split, fileMark, figuresFit, stateFits, headerOf, bucketsOf, mostOf, startOf, withRegion, withState, regionOf, bucketSoundIn, regionSound, lowestUnsound, check, view, create};
+ghost use Rattle.file.specs.File.{Checked, Created, Splitted, withRide, stateOf, divided, split, fileMark, figuresFit, stateFits, headerOf, bucketsOf, mostOf, startOf, withRegion, withState, regionOf, bucketSoundIn, regionSound, lowestUnsound, check, view, create};
 
 // A file's header, read and judged; of an unsound one nothing is known.
 pub struct Header {
@@ -340,4 +340,22 @@ fn refused_split(reply: u32, bucket: u32) -> SplitAnswer
         old_bucket: bucket,
         new_bucket: address::NO_BUCKET,
     }
+}
+
+// Places a ride in the first free slot of a sound bucket, and answers the count then held.
+pub fn place_ride(
+    file: &mut [u8],
+    header: Header,
+    bucket: u32,
+    count: usize,
+    key: u64,
+    payload: &[u8],
+) -> usize
+    requires { ⌜ Known (now file) header × (bucket < bucketsOf (now file)) × (bucketSoundIn (now file) bucket ≡ true) × (count ≡ countOf (regionOf (now file) bucket)) × (count < header .slots) × (length (now payload) ≡ 14) ⌝ }
+    ensures { λ r. ⌜ (r ≡ count + 1) × (now (file .exit) ≡ withRide (now (file .entry)) bucket (record { key = key; payload = now (payload .entry) })) ⌝ }
+{
+    let slots = header.slots;
+    let at = start(slots, bucket);
+    let end = at + (8 + 24 * slots as usize);
+    bucket::place(&mut file[at..end], count, key, payload)
 }

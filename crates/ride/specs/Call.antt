@@ -12,13 +12,13 @@ use lib.Dec.{leb, ltb, eqb}
 use lib.ListN.{length, getD, take, replicate}
 use Rattle.address.specs.Limits.{firstBuckets, noBucket}
 use Rattle.address.specs.declared.Image.{Image}
-use Rattle.address.specs.Rules.{buckets, address, level, route, imageAfter}
+use Rattle.address.specs.Rules.{buckets, address, route, imageAfter}
 use Rattle.layout.specs.Bytes.{leBytes}
 use Rattle.layout.specs.Replies.{Refusal, refuse, reply}
-use Rattle.bucket.specs.Region.{Ride, countOf, rideAt, ridesOf, slotOf, encode}
+use Rattle.bucket.specs.Region.{countOf, rideAt, slotOf}
 use Rattle.client.specs.Table.{imageOf, recordSound, tableRefusals, withImage}
 use Rattle.ride.specs.declared.Walk.{Walk}
-use Rattle.file.specs.File.{capacityOf, slotsOf, stateOf, bucketsOf, headerSound, regionOf, bucketSoundIn, withRegion}
+use Rattle.file.specs.File.{capacityOf, slotsOf, stateOf, bucketsOf, headerSound, regionOf, bucketSoundIn, withRide}
 
 -- 14: answer block not 24 bytes, or insert's payload not 14. Then 2, 3, 4, 5, 6, before any route.
 pub early : List ℕ → List ℕ → ℕ → List Refusal
@@ -105,10 +105,7 @@ search file table client key answer =
 
 -- Insert: 8 if the key is held, 9 if its bucket holds S records, else it is placed; the flag is 1 if more than b records are then held.
 pub inserted : List ℕ → ℕ → List ℕ → List ℕ
-inserted file key payload =
-    let a = ownOf file key in
-    let region = regionOf file a in
-    withRegion file a (encode (slotsOf file) (level firstBuckets (stateOf file) a) (ridesOf region ++ (record { key = key; payload = payload } ∷ [])))
+inserted file key payload = withRide file (ownOf file key) (record { key = key; payload = payload })
 
 pub overfull : List ℕ → ℕ → ℕ
 overfull file key = cond (ltb (capacityOf file) (suc (countOf (regionOf file (ownOf file key))))) 1 0

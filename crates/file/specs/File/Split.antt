@@ -19,7 +19,7 @@ use Rattle.address.specs.Rules.Grow.{divided-cases, newborn-next, grown-formed,
 use Rattle.layout.specs.Bytes.{Bytes, allBelow, allZero, edit}
 use Rattle.layout.specs.Bytes.Edit.{part-front, part-edit}
 use Rattle.bucket.specs.Region.{Ride, slotAt, countOf, slotUsed, ridesOf, keysOf, every, encode, kept, bucketSound}
-use Rattle.bucket.specs.Region.Sound.{Parts, bucket-parts, sound-whole, sound-count}
+use Rattle.bucket.specs.Region.Sound.{Parts, sound-whole, sound-count}
 use Rattle.bucket.specs.Region.Rides.{kept-whole, kept-lengths}
 use Rattle.bucket.specs.Region.Encode.{length-encode}
 use Rattle.bucket.specs.Region.Keep.{kept-agree}
@@ -27,13 +27,7 @@ use Rattle.file.specs.declared.Header.{Header}
 use Rattle.file.specs.File.{mostOf, slotsOf, stateOf, bucketsOf, headerSound, regionOf, bucketSoundIn, withRegion, withState, staying, divided, Splitted, split}
 use Rattle.file.specs.File.Judge.{Ranges, Known, buckets-of, header-ranges, state-small}
 use Rattle.file.specs.File.Region.{region-fits, length-region}
-use Rattle.file.specs.File.Write.{with-slots, with-sound, with-most}
-
--- what a sound bucket of the file shows
-pub bucket-shows : (file : List ℕ) (a : ℕ) → bucketSoundIn file a ≡ true
-    → Parts (slotsOf file) (level firstBuckets (stateOf file) a) (λ key. eqb (address firstBuckets (stateOf file) key) a) (regionOf file a)
-unfolding bucketSoundIn
-bucket-shows file a h = bucket-parts firstBuckets (stateOf file) (slotsOf file) a (regionOf file a) h
+use Rattle.file.specs.File.Write.{with-slots, with-sound, with-most, bucket-shown}
 
 -- of the keys of bucket n, those whose h_{i+1} is not n are those that belong to the new bucket
 pub moves : (s : Image) → Formed firstBuckets s → (rides : List Ride) → every (λ key. eqb (address firstBuckets s key) (s .pointer)) (keysOf rides) ≡ true
@@ -92,7 +86,7 @@ module _ (file : List ℕ) (header : Header) (seen : Known file header) (source 
   exists = old-exists file header seen more old new eo en
 
   shown : Parts (slotsOf file) (level firstBuckets (stateOf file) (stateOf file .pointer)) (λ key. eqb (address firstBuckets (stateOf file) key) (stateOf file .pointer)) source
-  shown = rw es (bucket-shows file (stateOf file .pointer) sound)
+  shown = rw es (bucket-shown file (stateOf file .pointer) sound)
 
   source-long : length source ≡ slotAt (slotsOf file)
   source-long = ap length es ∙ length-region file (stateOf file .pointer) (region-fits file (seen .ranges) (stateOf file .pointer) (omega (arith, number file header seen more old new eo en, exists)))
@@ -168,7 +162,7 @@ module _ (file : List ℕ) (header : Header) (seen : Known file header) (source 
           (kept (λ key. not (keeps firstBuckets (stateOf file .pointer) (suc (stateOf file .level)) key)) (ridesOf (regionOf file (stateOf file .pointer))))
       moved = (λ i. encode (seen .slots i) (up i) (kept (keeps firstBuckets (born i) (up i)) (ridesOf (es i))))
           ∙ ap (encode (slotsOf file) (suc (stateOf file .level)))
-          (moves (stateOf file) (seen .ranges .formed) (ridesOf (regionOf file (stateOf file .pointer))) (bucket-shows file (stateOf file .pointer) sound .belong))
+          (moves (stateOf file) (seen .ranges .formed) (ridesOf (regionOf file (stateOf file .pointer))) (bucket-shown file (stateOf file .pointer) sound .belong))
 
       second : two ≡ withRegion (withRegion file (stateOf file .pointer)
           (encode (slotsOf file) (suc (stateOf file .level)) (kept (keeps firstBuckets (stateOf file .pointer) (suc (stateOf file .level))) (ridesOf (regionOf file (stateOf file .pointer))))))

@@ -12,12 +12,16 @@ use lib.Seq.{drop-drop}
 use Rattle.address.specs.Limits.{firstBuckets}
 use Rattle.address.specs.declared.Image.{Image}
 use Rattle.layout.specs.Bytes.{Bytes, byteAt, leAt, leBytes, marked, allZero, edit, part}
-use Rattle.layout.specs.Bytes.Edit.{length-edit, edit-before, edit-in, edit-after, part-edit, part-before, part-after, part-at, part-is, same-bytes, edit-is, edit-bytes}
+use Rattle.layout.specs.Bytes.Edit.{length-edit, edit-before, edit-in, edit-after, part-edit, part-before, part-after, part-at, part-is, same-bytes, edit-is, edit-bytes, part-bytes}
 use Rattle.layout.specs.Bytes.Numbers.{le-same, le-back, length-leBytes}
-use Rattle.bucket.specs.Region.{slotAt}
-use Rattle.file.specs.File.{fileMark, capacityOf, mostOf, slotsOf, stateOf, figuresFit, bucketsOf, stateFits, headerSound, startOf, regionOf, withRegion, withState}
-use Rattle.file.specs.File.Judge.{Ranges}
-use Rattle.file.specs.File.Region.{region-is, region-fits, region-apart}
+use Rattle.address.specs.Rules.{address, level}
+use Rattle.bucket.specs.Region.{Ride, Whole, slotAt, countOf, ridesOf, slotBytes}
+use Rattle.bucket.specs.Region.Sound.{Parts, bucket-parts, sound-count, sound-whole, sound-encode}
+use Rattle.bucket.specs.Region.Encode.{encode-more}
+use Rattle.file.specs.declared.Header.{Header}
+use Rattle.file.specs.File.{fileMark, capacityOf, mostOf, slotsOf, stateOf, figuresFit, bucketsOf, stateFits, headerSound, startOf, regionOf, bucketSoundIn, withRegion, withRide, withState}
+use Rattle.file.specs.File.Judge.{Ranges, Known}
+use Rattle.file.specs.File.Region.{region-is, region-fits, region-apart, length-region}
 
 -- two files that agree in the first 16 bytes and in length have the same header
 module _ (file other : List ℕ) (long : length other ≡ length file) (same : (k : ℕ) → k < 16 → getD other k 0 ≡ getD file k 0) where
@@ -124,3 +128,34 @@ with-lent file region a at n ea en =
 pub state-written : (file : List ℕ) (state : Image) → edit 4 (leBytes 2 (state .pointer)) (edit 2 (state .level ∷ []) file) ≡ withState file state
 unfolding withState
 state-written file state = refl
+
+-- what a sound bucket of the file shows
+pub bucket-shown : (file : List ℕ) (a : ℕ) → bucketSoundIn file a ≡ true
+    → Parts (slotsOf file) (level firstBuckets (stateOf file) a) (λ key. eqb (address firstBuckets (stateOf file) key) a) (regionOf file a)
+unfolding bucketSoundIn
+bucket-shown file a h = bucket-parts firstBuckets (stateOf file) (slotsOf file) a (regionOf file a) h
+
+-- ---- a ride, placed
+
+module _ (file : List ℕ) (header : Header) (seen : Known file header) (bytes : Bytes file) (a : ℕ) (exists : a < bucketsOf file) (sound : bucketSoundIn file a ≡ true)
+    (ride : Ride) (whole : Whole ride) (count : ℕ) (counted : count ≡ countOf (regionOf file a)) (room : count < header .slots) where
+  region-bytes : Bytes (regionOf file a)
+  region-bytes = rw (region-is file a) (part-bytes (startOf (slotsOf file) a) (slotAt (slotsOf file)) file (region-fits file (seen .ranges) a (omega (arith, seen .ranges .few))) bytes)
+
+  region-long : length (regionOf file a) ≡ slotAt (slotsOf file)
+  region-long = length-region file a (region-fits file (seen .ranges) a (omega (arith, seen .ranges .few)))
+
+  shown : Parts (slotsOf file) (level firstBuckets (stateOf file) a) (λ key. eqb (address firstBuckets (stateOf file) key) a) (regionOf file a)
+  shown = bucket-shown file a sound
+
+  pub ride-placed : (region after : List ℕ) → region ≡ regionOf file a
+      → after ≡ edit 4 (leBytes 2 (count + 1)) (edit (slotAt count) (slotBytes ride) region)
+      → withRegion file a after ≡ withRide file a ride
+  unfolding withRide
+  ride-placed region after er ea = ap (withRegion file a) (ea
+      ∙ ap₂ (λ (n : ℕ) (r : List ℕ). edit 4 (leBytes 2 (n + 1)) (edit (slotAt n) (slotBytes ride) r)) number (er ∙ sound-encode _ _ _ (regionOf file a) region-bytes region-long shown)
+      ∙ encode-more (slotsOf file) (level firstBuckets (stateOf file) a) (ridesOf (regionOf file a)) (sound-whole _ _ _ (regionOf file a) region-bytes region-long shown) ride whole
+      (omega (arith, number, seen .slots)))
+    where
+      number : count ≡ length (ridesOf (regionOf file a))
+      number = counted ∙ sym (sound-count _ _ _ (regionOf file a) region-bytes region-long shown)
