@@ -3,11 +3,11 @@ use address::Fate;
 use address::Image;
 use file::Header;
 ghost use mathlib.Core.Path.{_≡_};
-ghost use mathlib.Core.Bool.{true};
+ghost use mathlib.Core.Bool.{true, cond};
 ghost use mathlib.Core.List.{_++_, _∷_, []};
 ghost use Prim.Native.Nat.{_+_, _*_, _≤_, _<_};
 ghost use lib.ListN.{length, take};
-ghost use lib.Dec.{eqb};
+ghost use lib.Dec.{ltb, eqb};
 ghost use Rattle.address.specs.Room.{ImageRoom};
 ghost use Rattle.address.specs.Rules.{Formed, NotAhead, level, adjusted};
 ghost use Rattle.client.specs.Table.{withImage};
@@ -15,11 +15,11 @@ ghost use Rattle.bucket.specs.Region.{countOf, ridesOf, keysOf, slotOf};
 ghost use Rattle.file.specs.File.{stateOf, bucketsOf, startOf, regionOf, bucketSoundIn};
 ghost use Rattle.file.specs.File.Judge.{Known};
 ghost use Rattle.layout.specs.Replies.{reply};
-ghost use Rattle.ride.specs.Call.{Outcome, search, wayOf, early, noted, block, noPayload};
+ghost use Rattle.ride.specs.Call.{Outcome, search, insert, wayOf, early, noted, block, noPayload};
 ghost use Rattle.ride.specs.Call.After.{Reached};
 ghost use Rattle.ride.specs.Call.Block.{shown};
 ghost use Rattle.ride.specs.Call.Open.{Opening};
-ghost use Rattle.ride.specs.Call.Replied.{searched};
+ghost use Rattle.ride.specs.Call.Replied.{searched, placed};
 ghost use Rattle.ride.specs.Call.Route.{Walked};
 
 // The buckets that a key has met, at most three, the last of them, and whether all were sound.
@@ -301,4 +301,86 @@ pub fn search(file: &[u8], table: &mut [u8], client: u64, key: u64, answer: &mut
         return 7;
     }
     finish_search(file, table, client, key, answer, opened, end, &keys)
+}
+
+// The flag of an insert: 1 if more rides are held than the capacity.
+fn over_capacity(capacity: u32, held: usize) -> u8
+    ensures { λ r. ⌜ r ≡ cond (ltb capacity held) 1 0 ⌝ }
+{
+    if (capacity as usize) < held {
+        return 1;
+    }
+    0
+}
+
+// An insert that reached the key's own bucket: held already, no slot free, or placed.
+fn finish_insert(
+    file: &mut [u8],
+    table: &mut [u8],
+    client: u64,
+    key: u64,
+    payload: &[u8],
+    answer: &mut [u8],
+    opened: Opened,
+    end: End,
+    keys: &[u64],
+) -> u8
+    requires { ⌜ (length (now answer) ≡ 24) × Reached (now file) (now table) client key (opened .header) (opened .image) (end .walk) (end .bucket) (now keys) × (length (now payload) ≡ 14) ⌝ }
+    ensures { λ r. ⌜ record { answer = r; block = now (answer .exit); table = now (table .exit); file = now (file .exit) } ≡ placed (now (file .entry)) (now (table .entry)) client key (now (payload .entry)) ⌝ }
+{
+    let header = opened.header;
+    let walk = end.walk;
+    let slot = look_up(file, header, end.bucket, key, keys);
+    adjust(table, client, header, opened.image, walk);
+    if slot.place < slot.count {
+        put_block(answer, 8, walk, 0);
+        return 8;
+    }
+    if header.slots as usize <= slot.count {
+        put_block(answer, 9, walk, 0);
+        return 9;
+    }
+    let held = file::place_ride(file, header, end.bucket, slot.count, key, payload);
+    put_block(answer, 0, walk, over_capacity(header.capacity, held));
+    0
+}
+
+// Inserts a ride through a client: 14, 2 to 6, 7, 8, 9, else 0.
+pub fn insert(
+    file: &mut [u8],
+    table: &mut [u8],
+    client: u64,
+    key: u64,
+    payload: &[u8],
+    answer: &mut [u8],
+) -> u8
+    ensures { λ r. ⌜ record { answer = r; block = now (answer .exit); table = now (table .exit); file = now (file .exit) } ≡ insert (now (file .entry)) (now (table .entry)) client key (now (payload .entry)) (now (answer .entry)) ⌝ }
+{
+    let fits = (answer.len() == 24) & (payload.len() == 14);
+    if !fits {
+        return 14;
+    }
+    let opened = open(file, table, client);
+    let refused = opened.reply;
+    if refused != 0 {
+        put_block(answer, refused, no_walk(), 0);
+        return refused;
+    }
+    let mut keys = [0u64; 64];
+    let end = walk_route(file, opened.header, opened.image, key, &mut keys);
+    if !end.sound {
+        put_block(answer, 7, end.walk, 0);
+        return 7;
+    }
+    finish_insert(
+        file,
+        table,
+        client,
+        key,
+        payload,
+        answer,
+        opened,
+        end,
+        &keys,
+    )
 }

@@ -10,33 +10,24 @@ use Rattle.client.specs.Table.{withImage}
 use borrow.Author.Needs.{needs}
 use Rattle.ride.proofs.adjust.Statement.{statement}
 use Rattle.ride.proofs.adjust.Tie as tie
-use Rattle.ride.proofs.adjust.Reads as reads
-use Rattle.ride.proofs.adjust.Lts as lts
-use Rattle.address.proofs.adjusted.Reads as adjusted-reads
-use Rattle.address.proofs.level_of.Reads as level-of-reads
-use Rattle.client.proofs.put_image.Reads as put-image-reads
 
 level-of-requires : tie.Need-level-of-requires
 level-of-requires c κs = search needs
 
--- src/lib.rt:214:9
 adjusted-requires : tie.Need-adjusted-requires
 adjusted-requires c κs =
     let a = c .before .before .before .args in
     (record { some = omega arith; few = omega arith; low = omega (arith, level-high 1 (a .header .state) (a .walk .first), c .before .level-of .ensures, c .before .before .before .pre .1 .levels .low) }, omega arith)
 
--- src/lib.rt:215:5
 put-image-requires : tie.Need-put-image-requires
 put-image-requires c κs =
     let a = c .before .before .before .before .before .args in
     let next = c .before .adjusted .ensures ∙ ap (λ (l : ℕ). adjusted 1 (a .image) (a .walk .first) l (eqb (a .walk .count) 1)) (c .before .before .before .level-of .ensures) in
     (c .before .before .before .before .before .pre .0, omega (arith, ap (λ (x : Image). x .level) next), omega (arith, ap (λ (x : Image). x .pointer) next))
 
--- src/lib.rt:208:1
 same-length : tie.Need-same-length
 same-length c = search needs
 
--- src/lib.rt:208:1
 returns : tie.Need-returns
 returns c =
     let a = c .before .before .before .before .before .before .before .before .args in

@@ -5,15 +5,12 @@ use Prim.Native.Nat.{ℕ}
 use mathlib.Core.Bool.{Bool, cond}
 use Rattle.ride.proofs.entry.Statement.{statement}
 use Rattle.ride.proofs.entry.Tie as tie
-use Rattle.ride.proofs.entry.Reads as reads
-use Rattle.ride.proofs.entry.Lts as lts
 
 returns : tie.Need-returns
 returns c =
     let a = c .before .args in
     sym (ap (λ (t : Bool). cond t (a .bucket) 65535) (lt-ltb (a .place) (a .count) (c .if1 .taken)))
 
--- src/lib.rt:157:1
 returns-2 : tie.Need-returns-2
 returns-2 c =
     let a = c .before .args in

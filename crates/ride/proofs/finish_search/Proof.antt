@@ -16,30 +16,21 @@ use Rattle.ride.specs.Call.Replied.{held-is, search-found, search-absent
 use borrow.Author.Needs.{needs}
 use Rattle.ride.proofs.finish_search.Statement.{statement}
 use Rattle.ride.proofs.finish_search.Tie as tie
-use Rattle.ride.proofs.finish_search.Reads as reads
-use Rattle.ride.proofs.finish_search.Lts as lts
-use Rattle.layout.proofs.put.Reads as put-reads
-use Rattle.ride.proofs.adjust.Reads as adjust-reads
-use Rattle.ride.proofs.look_up.Reads as look-up-reads
-use Rattle.ride.proofs.put_block.Reads as put-block-reads
 
 look-up-requires : tie.Need-look-up-requires
 look-up-requires c κs =
     let a = c .before .before .before .before .before .before .args in
     ((c .before .before .before .before .before .before .pre .1 .opened .known), c .before .before .before .before .before .before .pre .1 .ended .there, c .before .before .before .before .before .before .pre .1 .ended .good refl, c .before .before .before .before .before .before .pre .1 .long, c .before .before .before .before .before .before .pre .1 .gathered)
 
--- src/lib.rt:249:5
 adjust-requires : tie.Need-adjust-requires
 adjust-requires c κs =
     let a = c .before .before .before .before .before .before .before .before .args in
     let small = reached-small (a .file .now) (a .table .now) (a .client) (a .key) (a .opened .header) (a .opened .image) (a .end .walk) (a .end .bucket) (a .keys .now) (c .before .before .before .before .before .before .before .before .pre .1) in
     (c .before .before .before .before .before .before .before .before .pre .1 .opened .there, (c .before .before .before .before .before .before .before .before .pre .1 .opened .known) .room, reached-first (a .file .now) (a .table .now) (a .client) (a .key) (a .opened .header) (a .opened .image) (a .end .walk) (a .end .bucket) (a .keys .now) (c .before .before .before .before .before .before .before .before .pre .1), omega (arith, small), omega (arith, small))
 
--- src/lib.rt:251:9
 put-block-requires : tie.Need-put-block-requires
 put-block-requires c κs = search needs
 
--- src/lib.rt:252:36
 mul-from : tie.Need-mul-from
 mul-from c =
     let a = c .before .before .before .before .before .before .before .before .before .before .before .before .before .before .before .before .before .before .args in
@@ -47,7 +38,6 @@ mul-from c =
     omega (arith, c .before .before .before .before .before .before .before .before .before .before .before .look-up .ensures .1, sound-few (a .file .now) (a .end .bucket) (c .before .before .before .before .before .before .before .before .before .before .before .before .before .before .before .before .before .before .pre .1 .ended .good refl), c .before .before .before .before .before .if1 .taken) in
     omega (arith, (c .before .before .before .before .before .before .before .before .before .before .before .before .before .before .before .before .before .before .pre .1 .opened .known) .ranges .figured .few-slots)
 
--- src/lib.rt:252:31
 add-from : tie.Need-add-from
 add-from c =
     let a = c .before .before .before .before .before .before .before .before .before .before .before .before .before .before .before .before .before .before .args in
@@ -55,7 +45,6 @@ add-from c =
     omega (arith, c .before .before .before .before .before .before .before .before .before .before .before .look-up .ensures .1, sound-few (a .file .now) (a .end .bucket) (c .before .before .before .before .before .before .before .before .before .before .before .before .before .before .before .before .before .before .pre .1 .ended .good refl), c .before .before .before .before .before .if1 .taken) in
     omega (arith, (c .before .before .before .before .before .before .before .before .before .before .before .before .before .before .before .before .before .before .pre .1 .opened .known) .ranges .figured .few-slots)
 
--- src/lib.rt:252:20
 add-from-2 : tie.Need-add-from-2
 add-from-2 c =
     let a = c .before .before .before .before .before .before .before .before .before .before .before .before .before .before .before .before .before .before .before .args in
@@ -63,7 +52,6 @@ add-from-2 c =
     omega (arith, c .before .before .before .before .before .before .before .before .before .before .before .before .look-up .ensures .1, sound-few (a .file .now) (a .end .bucket) (c .before .before .before .before .before .before .before .before .before .before .before .before .before .before .before .before .before .before .before .pre .1 .ended .good refl), c .before .before .before .before .before .before .if1 .taken) in
     omega (arith, payload-cut (a .file .now) (a .opened .header) (c .before .before .before .before .before .before .before .before .before .before .before .before .before .before .before .before .before .before .before .pre .1 .opened .known) (a .end .bucket) (c .before .before .before .before .before .before .before .before .before .before .before .before .look-up .result .at) (c .before .before .before .before .before .before .before .before .before .before .before .before .look-up .result .place) (c .before .before .before .before .before .before .before .before .before .before .before .before .look-up .result .at + (18 + 24 * c .before .before .before .before .before .before .before .before .before .before .before .before .look-up .result .place)) (omega (arith, c .before .before .before .before .before .before .before .before .before .before .before .before .before .before .before .before .before .before .before .pre .1 .ended .there, (c .before .before .before .before .before .before .before .before .before .before .before .before .before .before .before .before .before .before .before .pre .1 .opened .known) .ranges .few)) (c .before .before .before .before .before .before .before .before .before .before .before .before .look-up .ensures .0) low refl)
 
--- src/lib.rt:253:18
 add-to : tie.Need-add-to
 add-to c =
     let a = c .before .before .before .before .before .before .before .before .before .before .before .before .before .before .before .before .before .before .before .args in
@@ -71,15 +59,12 @@ add-to c =
     omega (arith, c .before .before .before .before .before .before .before .before .before .before .before .before .look-up .ensures .1, sound-few (a .file .now) (a .end .bucket) (c .before .before .before .before .before .before .before .before .before .before .before .before .before .before .before .before .before .before .before .pre .1 .ended .good refl), c .before .before .before .before .before .before .if1 .taken) in
     omega (arith, payload-cut (a .file .now) (a .opened .header) (c .before .before .before .before .before .before .before .before .before .before .before .before .before .before .before .before .before .before .before .pre .1 .opened .known) (a .end .bucket) (c .before .before .before .before .before .before .before .before .before .before .before .before .look-up .result .at) (c .before .before .before .before .before .before .before .before .before .before .before .before .look-up .result .place) (c .before .before .before .before .before .before .before .before .before .before .before .before .look-up .result .at + (18 + 24 * c .before .before .before .before .before .before .before .before .before .before .before .before .look-up .result .place)) (omega (arith, c .before .before .before .before .before .before .before .before .before .before .before .before .before .before .before .before .before .before .before .pre .1 .ended .there, (c .before .before .before .before .before .before .before .before .before .before .before .before .before .before .before .before .before .before .before .pre .1 .opened .known) .ranges .few)) (c .before .before .before .before .before .before .before .before .before .before .before .before .look-up .ensures .0) low refl)
 
--- src/lib.rt:254:33
 sub-put : tie.Need-sub-put
 sub-put c = search needs
 
--- src/lib.rt:254:33
 part-put-start : tie.Need-part-put-start
 part-put-start c = search needs
 
--- src/lib.rt:254:33
 part-put-end : tie.Need-part-put-end
 part-put-end c =
     let a = c .before .before .before .before .before .before .before .before .before .before .before .before .before .before .before .before .before .before .before .before .args in
@@ -87,19 +72,15 @@ part-put-end c =
     omega (arith, c .before .before .before .before .before .before .before .before .before .before .before .before .before .look-up .ensures .1, sound-few (a .file .now) (a .end .bucket) (c .before .before .before .before .before .before .before .before .before .before .before .before .before .before .before .before .before .before .before .before .pre .1 .ended .good refl), c .before .before .before .before .before .before .before .if1 .taken) in
     payload-cut (a .file .now) (a .opened .header) (c .before .before .before .before .before .before .before .before .before .before .before .before .before .before .before .before .before .before .before .before .pre .1 .opened .known) (a .end .bucket) (c .before .before .before .before .before .before .before .before .before .before .before .before .before .look-up .result .at) (c .before .before .before .before .before .before .before .before .before .before .before .before .before .look-up .result .place) (c .before .before .before .before .before .before .before .before .before .before .before .before .before .look-up .result .at + (18 + 24 * c .before .before .before .before .before .before .before .before .before .before .before .before .before .look-up .result .place)) (omega (arith, c .before .before .before .before .before .before .before .before .before .before .before .before .before .before .before .before .before .before .before .before .pre .1 .ended .there, (c .before .before .before .before .before .before .before .before .before .before .before .before .before .before .before .before .before .before .before .before .pre .1 .opened .known) .ranges .few)) (c .before .before .before .before .before .before .before .before .before .before .before .before .before .look-up .ensures .0) low refl .1
 
--- src/lib.rt:254:9
 put-requires : tie.Need-put-requires
 put-requires c κs = search needs
 
--- src/lib.rt:255:9
 same-length : tie.Need-same-length
 same-length c = search needs
 
--- src/lib.rt:255:9
 same-length-2 : tie.Need-same-length-2
 same-length-2 c = search needs
 
--- src/lib.rt:255:9
 returns : tie.Need-returns
 returns c =
     let a = c .before .before .before .before .before .before .before .before .before .before .before .before .before .before .before .before .before .before .before .before .before .before .before .before .args in
@@ -113,19 +94,15 @@ returns c =
     (cut ∙ ap (λ (k : ℕ). rideAt (regionOf (a .file .now) (a .end .bucket)) k .payload) (c .before .before .before .before .before .before .before .before .before .before .before .before .before .before .before .before .before .look-up .ensures .2) ∙ ap (λ (x : ℕ). rideAt (regionOf (a .file .now) x) (slotOf (regionOf (a .file .now) x) (a .key)) .payload) own)
     (c .before .before .put .ensures ∙ ap (edit 10 _) (c .before .before .before .before .before .before .before .before .before .put-block .ensures) ∙ block-payload 0 0 (noted (a .end .walk)) _ (payload-cut (a .file .now) (a .opened .header) (c .before .before .before .before .before .before .before .before .before .before .before .before .before .before .before .before .before .before .before .before .before .before .before .before .pre .1 .opened .known) (a .end .bucket) (c .before .before .before .before .before .before .before .before .before .before .before .before .before .before .before .before .before .look-up .result .at) (c .before .before .before .before .before .before .before .before .before .before .before .before .before .before .before .before .before .look-up .result .place) (c .before .before .before .before .before .before .before .before .before .before .before .before .before .before .before .before .before .look-up .result .at + (18 + 24 * c .before .before .before .before .before .before .before .before .before .before .before .before .before .before .before .before .before .look-up .result .place)) (omega (arith, c .before .before .before .before .before .before .before .before .before .before .before .before .before .before .before .before .before .before .before .before .before .before .before .before .pre .1 .ended .there, (c .before .before .before .before .before .before .before .before .before .before .before .before .before .before .before .before .before .before .before .before .before .before .before .before .pre .1 .opened .known) .ranges .few)) (c .before .before .before .before .before .before .before .before .before .before .before .before .before .before .before .before .before .look-up .ensures .0) low refl .2))
 
--- src/lib.rt:257:5
 put-block-requires-2 : tie.Need-put-block-requires-2
 put-block-requires-2 c κs = search needs
 
--- src/lib.rt:242:1
 same-length-3 : tie.Need-same-length-3
 same-length-3 c = search needs
 
--- src/lib.rt:242:1
 same-length-4 : tie.Need-same-length-4
 same-length-4 c = search needs
 
--- src/lib.rt:242:1
 returns-2 : tie.Need-returns-2
 returns-2 c =
     let a = c .before .before .before .before .before .before .before .before .before .before .before .before .before .before .before .before .before .args in

@@ -11,32 +11,23 @@ use Rattle.file.specs.File.Region.{known-fits, count-in, sound-few}
 use borrow.Author.Needs.{needs}
 use Rattle.ride.proofs.look_up.Statement.{statement}
 use Rattle.ride.proofs.look_up.Tie as tie
-use Rattle.ride.proofs.look_up.Reads as reads
-use Rattle.ride.proofs.look_up.Lts as lts
-use Rattle.bucket.proofs.find.Reads as find-reads
-use Rattle.file.proofs.start.Reads as start-reads
-use Rattle.layout.proofs.read2.Reads as read2-reads
 
 start-requires : tie.Need-start-requires
 start-requires c κs = search needs
 
--- src/lib.rt:231:37
 add-read2 : tie.Need-add-read2
 add-read2 c = search needs
 
--- src/lib.rt:231:17
 read2-requires : tie.Need-read2-requires
 read2-requires c κs =
     let a = c .before .before .before .args in
     omega (arith, known-fits (a .file .now) (a .header) (c .before .before .before .pre .0) (a .bucket) (c .start .result) (c .start .ensures .0) (omega (arith, c .before .before .before .pre .1, c .before .before .before .pre .0 .ranges .few)))
 
--- src/lib.rt:235:16
 find-requires : tie.Need-find-requires
 find-requires c κs =
     let a = c .before .before .before .before .args in
     omega (arith, (c .read2 .ensures .0 ∙ ap (λ (p : ℕ). leAt 2 (a .file .now) (p + 4)) (c .before .start .ensures .0 ∙ ap (λ (S : ℕ). startOf S (a .bucket)) (c .before .before .before .before .pre .0 .slots)) ∙ sym (count-in (a .file .now) (a .bucket))), sound-few (a .file .now) (a .bucket) (c .before .before .before .before .pre .2), c .before .before .before .before .pre .3, c .before .before .before .before .pre .0 .ranges .figured .few-slots)
 
--- src/lib.rt:226:1
 returns : tie.Need-returns
 returns c =
     let a = c .before .before .before .before .before .args in

@@ -13,22 +13,13 @@ use Rattle.ride.specs.Call.Open.{early-table, early-record, early-header
 use borrow.Author.Needs.{needs}
 use Rattle.ride.proofs.open.Statement.{statement}
 use Rattle.ride.proofs.open.Tie as tie
-use Rattle.ride.proofs.open.Reads as reads
-use Rattle.ride.proofs.open.Lts as lts
-use Rattle.address.proofs.buckets.Reads as buckets-reads
-use Rattle.client.proofs.client_of.Reads as client-of-reads
-use Rattle.client.proofs.table_refusal.Reads as table-refusal-reads
-use Rattle.file.proofs.header_of.Reads as header-of-reads
-use Rattle.ride.proofs.not_opened.Reads as not-opened-reads
 
 table-refusal-requires : tie.Need-table-refusal-requires
 table-refusal-requires c κs = search needs
 
--- src/lib.rt:133:9
 not-opened-requires : tie.Need-not-opened-requires
 not-opened-requires c κs = search needs
 
--- src/lib.rt:133:9
 returns : tie.Need-returns
 returns c =
     let a = c .before .before .before .before .before .args in (
@@ -36,59 +27,48 @@ returns c =
       λ e. absurd (c .before .if1 .taken (sym (c .not-opened .ensures) ∙ e)),
     )
 
--- src/lib.rt:135:9
 client-of-requires : tie.Need-client-of-requires
 client-of-requires c κs =
     let a = c .before .before .before .before .args in
     record-fits (a .table .now) (a .client) (sym (c .before .table-refusal .ensures) ∙ c .if1 .left)
 
--- src/lib.rt:137:9
 not-opened-requires-2 : tie.Need-not-opened-requires-2
 not-opened-requires-2 c κs = search needs
 
--- src/lib.rt:137:9
 returns-2 : tie.Need-returns-2
 returns-2 c =
     let a = c .before .before .before .before .before .before .before .before .args in
     (c .not-opened2 .ensures ∙ early-record (a .file .now) (a .table .now) (a .client) (sym (c .before .before .before .before .before .table-refusal .ensures) ∙ c .before .before .before .before .if1 .left) (sym (c .before .before .before .client-of .ensures .0) ∙ not-true _ (c .before .if2 .taken)), λ e. absurd (omega (arith, c .not-opened2 .ensures)))
 
--- src/lib.rt:139:9
 header-of-requires : tie.Need-header-of-requires
 header-of-requires c κs = search needs
 
--- src/lib.rt:141:9
 not-opened-requires-3 : tie.Need-not-opened-requires-3
 not-opened-requires-3 c κs = search needs
 
--- src/lib.rt:141:9
 returns-3 : tie.Need-returns-3
 returns-3 c =
     let a = c .before .before .before .before .before .before .before .before .before .before .before .args in
     (c .not-opened3 .ensures ∙ early-header (a .file .now) (a .table .now) (a .client) (sym (c .before .before .before .before .before .before .before .before .table-refusal .ensures) ∙ c .before .before .before .before .before .before .before .if1 .left) (sym (c .before .before .before .before .before .before .client-of .ensures .0) ∙ not-false _ (c .before .before .before .before .if2 .left)) (unknown (a .file .now) (c .before .before .before .header-of .result) (c .before .before .before .header-of .ensures) (not-true _ (c .before .if3 .taken))), λ e. absurd (omega (arith, c .not-opened3 .ensures)))
 
--- src/lib.rt:145:8
 buckets-requires : tie.Need-buckets-requires
 buckets-requires c κs =
     let a = c .before .before .before .before .before .before .before .before .before .before .before .before .args in
     (known (a .file .now) (c .before .before .before .before .header-of .result) (c .before .before .before .before .header-of .ensures) (not-false _ (c .before .before .if3 .left))) .room
 
--- src/lib.rt:145:58
 buckets-requires-2 : tie.Need-buckets-requires-2
 buckets-requires-2 c κs =
     let a = c .before .before .before .before .before .before .before .before .before .before .before .before .before .args in
     (image-known (a .table .now) (a .client) (c .before .before .before .before .before .before .before .before .client-of .result .image) (c .before .before .before .before .before .before .before .before .client-of .ensures .1) (sym (c .before .before .before .before .before .before .before .before .client-of .ensures .0) ∙ not-false _ (c .before .before .before .before .before .before .if2 .left))) .2
 
--- src/lib.rt:146:9
 not-opened-requires-4 : tie.Need-not-opened-requires-4
 not-opened-requires-4 c κs = search needs
 
--- src/lib.rt:146:9
 returns-4 : tie.Need-returns-4
 returns-4 c =
     let a = c .before .before .before .before .before .before .before .before .before .before .before .before .before .before .before .before .args in
     (c .not-opened4 .ensures ∙ early-ahead (a .file .now) (a .table .now) (a .client) (sym (c .before .before .before .before .before .before .before .before .before .before .before .before .before .table-refusal .ensures) ∙ c .before .before .before .before .before .before .before .before .before .before .before .before .if1 .left) (sym (c .before .before .before .before .before .before .before .before .before .before .before .client-of .ensures .0) ∙ not-false _ (c .before .before .before .before .before .before .before .before .before .if2 .left)) ((known (a .file .now) (c .before .before .before .before .before .before .before .before .header-of .result) (c .before .before .before .before .before .before .before .before .header-of .ensures) (not-false _ (c .before .before .before .before .before .before .if3 .left))) .sound) (omega (arith, buckets-known (a .file .now) (c .before .before .before .before .before .before .before .before .header-of .result) (known (a .file .now) (c .before .before .before .before .before .before .before .before .header-of .result) (c .before .before .before .before .before .before .before .before .header-of .ensures) (not-false _ (c .before .before .before .before .before .before .if3 .left))) (c .before .before .before .buckets .result) (c .before .before .before .buckets .ensures), (c .before .before .buckets2 .ensures ∙ ap (buckets 1) (c .before .before .before .before .before .before .before .before .before .before .before .client-of .ensures .1)))), λ e. absurd (omega (arith, c .not-opened4 .ensures)))
 
--- src/lib.rt:128:1
 returns-5 : tie.Need-returns-5
 returns-5 c =
     let a = c .before .before .before .before .before .before .before .before .before .before .before .before .before .before .before .args in

@@ -17,42 +17,29 @@ use Rattle.ride.specs.Call.Replied.{searched, search-is, routed-block, r
 use borrow.Author.Needs.{needs}
 use Rattle.ride.proofs.search.Statement.{statement}
 use Rattle.ride.proofs.search.Tie as tie
-use Rattle.ride.proofs.search.Reads as reads
-use Rattle.ride.proofs.search.Lts as lts
-use Rattle.ride.proofs.finish_search.Reads as finish-search-reads
-use Rattle.ride.proofs.no_walk.Reads as no-walk-reads
-use Rattle.ride.proofs.open.Reads as open-reads
-use Rattle.ride.proofs.put_block.Reads as put-block-reads
-use Rattle.ride.proofs.walk_route.Reads as walk-route-reads
 
 returns : tie.Need-returns
 returns c =
     let a = c .before .before .before .before .args in
     routed-block (a .file .now) (a .table .now) (a .client) (a .key) (a .answer .now) (searched (a .file .now) (a .table .now) (a .client) (a .key)) ∙ search-is (a .file .now) (a .table .now) (a .client) (a .key) (a .answer .now) false (ne-eqb _ 24 (c .if1 .taken))
 
--- src/lib.rt:280:9
 open-requires : tie.Need-open-requires
 open-requires c κs = search needs
 
--- src/lib.rt:283:36
 no-walk-requires : tie.Need-no-walk-requires
 no-walk-requires c κs = search needs
 
--- src/lib.rt:283:9
 put-block-requires : tie.Need-put-block-requires
 put-block-requires c κs =
     let a = c .before .before .before .before .before .before .before .before .before .args in
     (c .before .before .before .before .before .if1 .left, omega (arith, ap (λ (w : Walk). w .count) (c .no-walk .ensures)))
 
--- src/lib.rt:284:9
 same-length : tie.Need-same-length
 same-length c = search needs
 
--- src/lib.rt:284:9
 same-length-2 : tie.Need-same-length-2
 same-length-2 c = search needs
 
--- src/lib.rt:284:9
 returns-2 : tie.Need-returns-2
 returns-2 c =
     let a = c .before .before .before .before .before .before .before .before .before .before .before .before .args in
@@ -65,30 +52,24 @@ returns-2 c =
     ∙ routed-early (a .file .now) (a .table .now) (a .client) (a .key) (a .answer .now) (searched (a .file .now) (a .table .now) (a .client) (a .key)) (c .before .before .before .before .before .before .«open» .result .reply) (c .before .before .before .before .before .before .«open» .ensures .0) (c .before .before .before .before .before .if2 .taken)
     ∙ search-is (a .file .now) (a .table .now) (a .client) (a .key) (a .answer .now) true (eq-eqb _ 24 (c .before .before .before .before .before .before .before .before .if1 .left))
 
--- src/lib.rt:287:66
 slice-aggregate-walk-route : tie.Need-slice-aggregate-walk-route
 slice-aggregate-walk-route c = search needs
 
--- src/lib.rt:287:9
 walk-route-requires : tie.Need-walk-route-requires
 walk-route-requires c κs =
     let a = c .before .before .before .before .before .before .before .before .args in
     let g = (c .before .before .«open» .ensures .1 (c .before .if2 .left)) in
     (g .known, g .low, g .formed, g .behind, refl)
 
--- src/lib.rt:289:9
 put-block-requires-2 : tie.Need-put-block-requires-2
 put-block-requires-2 c κs = search needs
 
--- src/lib.rt:290:9
 same-length-3 : tie.Need-same-length-3
 same-length-3 c = search needs
 
--- src/lib.rt:290:9
 same-length-4 : tie.Need-same-length-4
 same-length-4 c = search needs
 
--- src/lib.rt:290:9
 returns-3 : tie.Need-returns-3
 returns-3 c =
     let a = c .before .before .before .before .before .before .before .before .before .before .before .before .before .before .before .before .args in
@@ -103,11 +84,9 @@ returns-3 c =
     (sym (c .before .before .before .before .before .before .before .walk-route .ensures .0 .sound ∙ ap (everyOn (bucketSoundIn (a .file .now))) (ap (λ (x : Image). wayOf (a .file .now) x (a .key)) ((c .before .before .before .before .before .before .before .before .before .before .«open» .ensures .1 (c .before .before .before .before .before .before .before .before .before .if2 .left)) .is))) ∙ not-true _ (c .before .before .before .before .if3 .taken))
     ∙ search-is (a .file .now) (a .table .now) (a .client) (a .key) (a .answer .now) true (eq-eqb _ 24 (c .before .before .before .before .before .before .before .before .before .before .before .before .if1 .left))
 
--- src/lib.rt:292:66
 slice-aggregate-finish-search : tie.Need-slice-aggregate-finish-search
 slice-aggregate-finish-search c = search needs
 
--- src/lib.rt:292:5
 finish-search-requires : tie.Need-finish-search-requires
 finish-search-requires c κs =
     let a = c .before .before .before .before .before .before .before .before .before .before .before .before .before .before .before .args in
@@ -123,15 +102,12 @@ finish-search-requires c κs =
       },
     )
 
--- src/lib.rt:274:1
 same-length-5 : tie.Need-same-length-5
 same-length-5 c = search needs
 
--- src/lib.rt:274:1
 same-length-6 : tie.Need-same-length-6
 same-length-6 c = search needs
 
--- src/lib.rt:274:1
 returns-4 : tie.Need-returns-4
 returns-4 c =
     let a = c .before .before .before .before .before .before .before .before .before .before .before .before .before .before .before .before .before .before .before .before .args in

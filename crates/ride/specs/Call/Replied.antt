@@ -3,6 +3,7 @@ use Prim.Native.Nat.{ℕ, suc, _+_, _≤_, _<_}
 use mathlib.Core.Path.{_≡_, refl, sym, ap, ap₂, _∙_}
 use mathlib.Core.Bool.{Bool, true, false, cond, not, _&&_}
 use mathlib.Core.List.{List, []}
+use native.Mathlib.Omega.{arith}
 use borrow.Author.Tests.{eq-eqb, ne-eqb, lt-ltb, le-ltb, le-leb, lt-leb}
 use lib.Dec.{leb, ltb, eqb}
 use lib.ListN.{length}
@@ -10,7 +11,7 @@ use Rattle.address.specs.declared.Image.{Image}
 use Rattle.layout.specs.Replies.{reply}
 use Rattle.bucket.specs.Region.{countOf, rideAt, slotOf}
 use Rattle.client.specs.Table.{imageOf}
-use Rattle.file.specs.File.{slotsOf, regionOf, bucketSoundIn}
+use Rattle.file.specs.File.{capacityOf, slotsOf, regionOf, bucketSoundIn, withRide}
 use Rattle.ride.specs.Call.{Outcome, early, cut, everyOn, wayOf, ownOf, held, full, block, noPayload, adjustedTable, routed, search, insert, inserted, overfull}
 
 module _ (file table : List ℕ) (client key : ℕ) (answer : List ℕ) (reached : Outcome) where
@@ -74,7 +75,7 @@ pub insert-single : (file table : List ℕ) (client key : ℕ) (payload answer :
     → o ≡ insert file table client key payload answer → p ≡ insert file table client key payload answer → o ≡ p
 insert-single file table client key payload answer o p eo ep = eo ∙ sym ep
 
--- held and full, by the own bucket's slots
+-- held, full and over the capacity, by the own bucket's slots
 module _ (file : List ℕ) (key a : ℕ) (own : a ≡ ownOf file key) where
   pub held-is : (k n : ℕ) → k ≡ slotOf (regionOf file a) key → n ≡ countOf (regionOf file a) → ltb k n ≡ held file key
   unfolding held
@@ -83,6 +84,14 @@ module _ (file : List ℕ) (key a : ℕ) (own : a ≡ ownOf file key) where
   pub full-is : (S n : ℕ) → S ≡ slotsOf file → n ≡ countOf (regionOf file a) → leb S n ≡ full file key
   unfolding full
   full-is S n eS en = ap₂ leb eS (en ∙ ap (λ (x : ℕ). countOf (regionOf file x)) own)
+
+  pub over-is : (b after n : ℕ) → b ≡ capacityOf file → after ≡ n + 1 → n ≡ countOf (regionOf file a) → cond (ltb b after) 1 0 ≡ overfull file key
+  unfolding overfull
+  over-is b after n eb ea en = ap₂ (λ (x y : ℕ). cond (ltb x y) 1 0) eb (ea ∙ ap (λ (x : ℕ). x + 1) (en ∙ ap (λ (x : ℕ). countOf (regionOf file x)) own) ∙ omega arith)
+
+  pub inserted-is : (payload next : List ℕ) → next ≡ withRide file a (record { key = key; payload = payload }) → next ≡ inserted file key payload
+  unfolding inserted
+  inserted-is payload next en = en ∙ ap (λ (x : ℕ). withRide file x (record { key = key; payload = payload })) own
 
 -- a search's two outcomes, and an insert's three, from what was written
 module _ (file table : List ℕ) (client key : ℕ) (way answer after : List ℕ) (ew : way ≡ wayOf file (imageOf table client) key) (et : after ≡ adjustedTable file table client key) where
