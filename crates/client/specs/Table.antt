@@ -1,4 +1,5 @@
 -- A client table as document 01 lays it out: 1 to 256 records of 8 bytes, each a client's image. When it is sound, what an image is, and what joining leaves.
+pub mod Kept
 pub mod Laws
 use Prim.Native.Nat.{ℕ, _*_, _/_, _%_, _+_}
 use mathlib.Core.Path.{_≡_}

@@ -4,6 +4,7 @@ pub mod Region
 pub mod Create
 pub mod Write
 pub mod Split
+pub mod Kept
 use Prim.Native.Nat.{ℕ, suc, _+_, _*_, _-_}
 use mathlib.Core.Path.{_≡_}
 use mathlib.Core.Bool.{Bool, true, false, cond, not, _&&_}

@@ -1,6 +1,7 @@
 -- Insert and search as document 01 has them: the refusals in their order, the route, the answer block, and what is left of file and table.
 pub mod After
 pub mod Block
+pub mod Kept
 pub mod Open
 pub mod Replied
 pub mod Route

@@ -15,7 +15,7 @@ ghost use Rattle.bucket.specs.Region.{countOf, ridesOf, keysOf, slotOf};
 ghost use Rattle.file.specs.File.{stateOf, bucketsOf, startOf, regionOf, bucketSoundIn};
 ghost use Rattle.file.specs.File.Judge.{Known};
 ghost use Rattle.layout.specs.Replies.{reply};
-ghost use Rattle.ride.specs.Call.{Outcome, search, insert, wayOf, early, noted, block, noPayload};
+ghost use Rattle.ride.specs.Call.{Outcome, search, insert, wayOf, early, noted, block, noPayload, forwardsIn};
 ghost use Rattle.ride.specs.Call.After.{Reached};
 ghost use Rattle.ride.specs.Call.Block.{shown};
 ghost use Rattle.ride.specs.Call.Open.{Opening};
@@ -383,4 +383,18 @@ pub fn insert(
         end,
         &keys,
     )
+}
+
+// How often the key of an answer block was sent on.
+pub fn forwards(answer: &[u8]) -> u32
+    ensures { λ r. ⌜ r ≡ forwardsIn (now (answer .entry)) ⌝ }
+{
+    if answer.len() != 24 {
+        return 0;
+    }
+    let met = layout::wide(answer[1]) as u32;
+    if met == 0 {
+        return 0;
+    }
+    met - 1
 }

@@ -62,3 +62,7 @@ by-zeros b some small =
       is = ap (λ (z : ℕ). b - z) shift
           ∙ sym (parent-of 1 (omega arith) b k (omega (arith, span-is 1 k)) (omega (arith, span-is 1 (suc k))));
     }
+
+-- no second parent fits
+pub parent-single : (N b o p : ℕ) → o ≡ parent N b → p ≡ parent N b → o ≡ p
+parent-single N b o p eo ep = eo ∙ sym ep

@@ -4,7 +4,7 @@ use Prim.Native.Nat.{ℕ, zero, suc, _+_, _≤_, _<_}
 use mathlib.Core.Path.{_≡_, refl, sym, ap, ap₂, _∙_}
 use mathlib.Core.Bool.{Bool, true, false, cond, not, _&&_, true≢false}
 use mathlib.Core.List.{List, [], _∷_, _++_, List·Memᴰ, List·Memᴰ·head, List·Memᴰ·tail, List·Memᴰ·not-nil, List·Memᴰ·cases-cons}
-use mathlib.Core.Logic.{_⊎_, inl, inr, ⊎-elim, by-cases}
+use mathlib.Core.Logic.{_⊎_, inl, inr, ⊎-elim, by-cases, _↔_}
 use native.Mathlib.Decide.{ℕ-discrete}
 use native.Mathlib.Nat.{add-zero, zero-add}
 use native.Mathlib.Omega.{arith}
@@ -12,12 +12,13 @@ use borrow.Author.Tests.{eqb-true, eq-eqb, ne-eqb}
 use lib.Dec.{eqb}
 use lib.ListN.{length, getD, take, length-append}
 use lib.Seq.{getD-take}
-use Rattle.address.specs.Rules.{keeps}
+use Rattle.address.specs.declared.Image.{Image}
+use Rattle.address.specs.Rules.{Formed, buckets, address, level, keeps}
 use Rattle.layout.specs.Bytes.{Bytes, firstFrom}
-use Rattle.layout.specs.Bytes.Tests.{and-left, and-right, and-both, first-before, first-same}
-use Rattle.bucket.specs.Region.{Ride, Whole, slotAt, countOf, keyAt, rideAt, ridesFrom, ridesOf, keysOf, every, distinct, soundWith, slotOf, encode, kept}
+use Rattle.layout.specs.Bytes.Tests.{and-left, and-right, and-both, first-within, first-before, first-same}
+use Rattle.bucket.specs.Region.{Ride, Whole, slotAt, countOf, keyAt, rideAt, ridesFrom, ridesOf, keysOf, every, distinct, soundWith, bucketSound, slotOf, encode, kept}
 use Rattle.bucket.specs.Region.Rides.{AllWhole, whole-append, keys-append, every-append, distinct-append, kept-whole, kept-passes, kept-distinct, kept-lengths, kept-in, kept-ind}
-use Rattle.bucket.specs.Region.Sound.{Parts, sound-count, sound-whole, encode-sound}
+use Rattle.bucket.specs.Region.Sound.{Parts, sound-count, sound-whole, rides-encode, encode-sound, bucket-judged, bucket-parts}
 
 -- the keys of the slots, one by one
 key-at : (region : List ℕ) (k c i : ℕ) → i < c → getD (keysOf (ridesFrom region k c)) i 0 ≡ keyAt region (k + i)
@@ -39,6 +40,11 @@ find-slot region keys key e = first-same (λ k. eqb (getD keys k 0) key) (λ k. 
     same : (k : ℕ) → k < countOf region → getD keys k 0 ≡ keyAt region k
     same k h = sym (getD-take (countOf region) keys k 0 h) ∙ ap (λ (l : List ℕ). getD l k 0) e
         ∙ key-at region 0 (countOf region) k h ∙ ap (keyAt region) (zero-add k)
+
+-- a slot is found within the count
+pub slot-most : (region : List ℕ) (key : ℕ) → slotOf region key ≤ countOf region
+unfolding slotOf
+slot-most region key = omega (arith, first-within (λ k. eqb (keyAt region k) key) (countOf region) 0)
 
 -- a key that no slot holds is fresh
 fresh-from : (region : List ℕ) (key k c : ℕ) → ((i : ℕ) → k ≤ i → i < k + c → eqb (keyAt region i) key ≡ false)
@@ -67,12 +73,35 @@ placed-sound S j own region bytes long small sound ride whole belongs new room =
     all : AllWhole (ridesOf region)
     all = sound-whole S j own region bytes long sound
 
+-- so too for a bucket of a state
+pub bucket-placed : (N : ℕ) (s : Image) (S a : ℕ) (region : List ℕ) → Bytes region → length region ≡ slotAt S → S < 65536 → bucketSound N s S a region ≡ true
+    → (ride : Ride) → Whole ride → address N s (ride .key) ≡ a → slotOf region (ride .key) ≡ countOf region → countOf region < S
+    → bucketSound N s S a (encode S (level N s a) (ridesOf region ++ (ride ∷ []))) ≡ true
+unfolding bucketSound
+bucket-placed N s S a region bytes long small sound ride whole own new room =
+    placed-sound S (level N s a) (λ key. eqb (address N s key) a) region bytes long small (bucket-parts N s S a region sound) ride whole (eq-eqb _ _ own) new room
+
 -- what a division gives a bucket is sound there
 pub divided-sound : (S j : ℕ) (own : ℕ → Bool) (rides : List Ride) → AllWhole rides → length rides ≤ S → S < 65536 → distinct (keysOf rides) ≡ true
     → soundWith S j own (encode S j (kept own rides)) ≡ true
 divided-sound S j own rides whole few small single =
     encode-sound S j (kept own rides) (kept-whole own rides whole) (omega (arith, kept-lengths own rides)) small own
     ∙ and-both _ _ (kept-passes own rides) (kept-distinct own rides single)
+
+-- so too for a bucket of a state, which keeps the keys whose h_j is its own number
+pub bucket-divided : (N : ℕ) → 0 < N → (s : Image) → Formed N s → (S a j : ℕ) → a < buckets N s → level N s a ≡ j
+    → (rides : List Ride) → AllWhole rides → length rides ≤ S → S < 65536 → distinct (keysOf rides) ≡ true
+    → bucketSound N s S a (encode S j (kept (keeps N a j) rides)) ≡ true
+bucket-divided N positive s formed S a j exists e rides whole few small single =
+    bucket-judged N positive s formed S a exists (encode S j (kept (keeps N a j) rides))
+    ∙ ap (λ (k : ℕ). soundWith S k (keeps N a k) (encode S j (kept (keeps N a j) rides))) e
+    ∙ divided-sound S j (keeps N a j) rides whole few small single
+
+-- a bucket whose level a change of state leaves alone is judged as before
+pub bucket-alike : (N : ℕ) → 0 < N → (s t : Image) → Formed N s → Formed N t → (S a : ℕ) → a < buckets N s → a < buckets N t → level N t a ≡ level N s a
+    → (region : List ℕ) → bucketSound N t S a region ≡ bucketSound N s S a region
+bucket-alike N positive s t fs ft S a es et e region =
+    bucket-judged N positive t ft S a et region ∙ ap (λ (k : ℕ). soundWith S k (keeps N a k) region) e ∙ sym (bucket-judged N positive s fs S a es region)
 
 -- two tests that agree on all the keys keep the same rides
 pub kept-agree : (all f g : ℕ → Bool) (rides : List Ride) → every all (keysOf rides) ≡ true → ((key : ℕ) → all key ≡ true → f key ≡ g key) → kept f rides ≡ kept g rides
@@ -103,3 +132,34 @@ member-kept test (first ∷ rides) ride m h = ⊎-elim here
       where
         same : test (first .key) ≡ true
         same = ap (λ (r : Ride). test (r .key)) (sym e) ∙ h
+
+-- dividing a sound bucket gives two sound ones at the next level that together hold the same rides
+module _ (S j : ℕ) (own : ℕ → Bool) (region : List ℕ) (bytes : Bytes region) (long : length region ≡ slotAt S) (small : S < 65536) (sound : Parts S j own region)
+    (stay : ℕ → Bool) where
+  abbrev half : (ℕ → Bool) → List ℕ
+  half test = encode S (suc j) (kept test (ridesOf region))
+
+  few : length (ridesOf region) ≤ S
+  few = omega (arith, sound-count S j own region bytes long sound, sound .few)
+
+  all : AllWhole (ridesOf region)
+  all = sound-whole S j own region bytes long sound
+
+  half-sound : (test : ℕ → Bool) → soundWith S (suc j) test (half test) ≡ true
+  half-sound test = divided-sound S (suc j) test (ridesOf region) all few small (sound .single)
+
+  half-rides : (test : ℕ → Bool) → ridesOf (half test) ≡ kept test (ridesOf region)
+  half-rides test = rides-encode S (suc j) (kept test (ridesOf region)) (kept-whole test (ridesOf region) all) (omega (arith, few, kept-lengths test (ridesOf region))) small
+
+  pub halves-sound : (soundWith S (suc j) stay (half stay) ≡ true) × (soundWith S (suc j) (λ key. not (stay key)) (half (λ key. not (stay key))) ≡ true)
+  halves-sound = (half-sound stay, half-sound (λ key. not (stay key)))
+
+  pub halves-hold : (ride : Ride) → List·Memᴰ ride (ridesOf region) ↔ (List·Memᴰ ride (ridesOf (half stay)) ⊎ List·Memᴰ ride (ridesOf (half (λ key. not (stay key)))))
+  halves-hold ride = rw (half-rides stay, half-rides (λ key. not (stay key))) (there, ⊎-elim (kept-member stay (ridesOf region) ride) (kept-member (λ key. not (stay key)) (ridesOf region) ride))
+    where
+      there : List·Memᴰ ride (ridesOf region) → List·Memᴰ ride (kept stay (ridesOf region)) ⊎ List·Memᴰ ride (kept (λ key. not (stay key)) (ridesOf region))
+      there m = go (stay (ride .key)) refl
+        where
+          go : (b : Bool) → stay (ride .key) ≡ b → List·Memᴰ ride (kept stay (ridesOf region)) ⊎ List·Memᴰ ride (kept (λ key. not (stay key)) (ridesOf region))
+          go true e = inl (member-kept stay (ridesOf region) ride m e)
+          go false e = inr (member-kept (λ key. not (stay key)) (ridesOf region) ride m (ap not e))

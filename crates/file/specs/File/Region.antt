@@ -1,25 +1,26 @@
 -- Where the regions lie: within the file, one behind the other; what is written to one leaves the header and every other as it was.
 use Prim.Native.Nat.{ℕ, suc, _+_, _*_, _-_, _≤_, _<_}
 use mathlib.Core.Path.{_≡_, refl, sym, ap, ap₂, _∙_}
-use mathlib.Core.Bool.{Bool, true, false, not}
+use mathlib.Core.Bool.{Bool, true, false, cond, not, _&&_}
 use mathlib.Core.List.{List, []}
 use native.Mathlib.Nat.{mul-le-mul, mul-le-mul-right}
 use native.Mathlib.Omega.{arith}
-use borrow.Author.Tests.{lt-ltb, le-ltb}
+use borrow.Author.Tests.{lt-ltb, le-ltb, ltb-true, ltb-false, not-true, not-false}
+use lib.Dec.{ltb, eqb}
 use lib.ListN.{length, take, drop}
 use Rattle.address.specs.Limits.{firstBuckets, noBucket}
 use Rattle.address.specs.declared.Image.{Image}
 use Rattle.address.specs.Room.{Room}
 use Rattle.address.specs.Rules.{buckets, level, keeps}
 use Rattle.address.specs.Rules.Cases.{level-high}
-use Rattle.layout.specs.Bytes.{leAt, allZero, firstFrom, part}
-use Rattle.layout.specs.Bytes.Tests.{first-here, first-later, first-none}
+use Rattle.layout.specs.Bytes.{leAt, allBelow, allZero, firstFrom, part}
+use Rattle.layout.specs.Bytes.Tests.{all-of, all-fails, first-here, first-later, first-none, first-passes, first-before}
 use Rattle.layout.specs.Bytes.Edit.{part-is, length-part}
 use Rattle.layout.specs.Bytes.Numbers.{le-part}
 use Rattle.bucket.specs.Region.{slotAt, countOf, soundWith}
 use Rattle.bucket.specs.Region.Sound.{bucket-judged, bucket-few}
 use Rattle.file.specs.declared.Header.{Header}
-use Rattle.file.specs.File.{mostOf, slotsOf, stateOf, startOf, fileLength, bucketsOf, regionOf, headerSound, bucketSoundIn, regionSound, Checked, lowestUnsound, check, view}
+use Rattle.file.specs.File.{mostOf, slotsOf, stateOf, startOf, fileLength, bucketsOf, regionOf, headerSound, bucketSoundIn, regionSound, fileSound, Checked, lowestUnsound, check, view}
 use Rattle.file.specs.File.Judge.{Ranges, Known}
 
 -- the machine's room for a place
@@ -172,6 +173,27 @@ module _ (file : List ℕ) (header : Header) (seen : Known file header) (a at n 
     where
       wide : at + 8 + 24 * n - (at + 8) ≡ 24 * countOf (regionOf file a)
       wide = omega (arith, counted)
+
+-- check answers 0 exactly for a sound file
+pub check-sound : (file : List ℕ) → eqb (check file .answer) 0 ≡ fileSound file
+unfolding check fileSound lowestUnsound
+check-sound file = headed (headerSound file)
+  where
+    lowest : ℕ
+    lowest = lowestUnsound file
+
+    regions : (b : Bool) → ltb lowest (mostOf file) ≡ b
+        → eqb (cond {A = Checked} b (record { answer = 7; bucket = lowest }) (record { answer = 0; bucket = noBucket }) .answer) 0 ≡ allBelow (regionSound file) (mostOf file)
+    regions true h = sym (all-fails (regionSound file) (mostOf file) lowest (ltb-true lowest (mostOf file) h)
+        (not-true _ (first-passes (λ a. not (regionSound file a)) (mostOf file) 0 (omega (arith, ltb-true lowest (mostOf file) h)))))
+    regions false h = sym (all-of (regionSound file) (mostOf file)
+        (λ a l. not-false _ (first-before (λ x. not (regionSound file x)) (mostOf file) 0 a (omega arith) (omega (arith, ltb-false lowest (mostOf file) h)))))
+
+    headed : (b : Bool) → eqb (cond {A = Checked} (not b) (record { answer = 5; bucket = noBucket })
+        (cond (ltb lowest (mostOf file)) (record { answer = 7; bucket = lowest }) (record { answer = 0; bucket = noBucket })) .answer) 0
+        ≡ (b && allBelow (regionSound file) (mostOf file))
+    headed true = regions (ltb lowest (mostOf file)) refl
+    headed false = refl
 
 pub view-single : (file : List ℕ) (a : ℕ) (o p : List ℕ) → o ≡ view file a → p ≡ view file a → o ≡ p
 view-single file a o p eo ep = eo ∙ sym ep

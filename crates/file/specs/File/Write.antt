@@ -2,9 +2,10 @@
 use Prim.Native.Nat.{ℕ, suc, _+_, _*_, _-_, _≤_, _<_, min}
 use mathlib.Core.Path.{_≡_, refl, sym, ap, ap₂, _∙_}
 use mathlib.Core.Bool.{Bool, true, false, _&&_}
-use mathlib.Core.List.{List, [], _∷_, _++_, append-assoc}
+use mathlib.Core.List.{List, [], _∷_, _++_, append-assoc, append-nil}
 use mathlib.Core.Logic.{_⊎_, inl, inr, ⊎-elim, by-cases}
 use native.Mathlib.Decide.{decLt}
+use native.Mathlib.Nat.{zero-add}
 use native.Mathlib.Omega.{arith}
 use lib.Dec.{leb, eqb}
 use lib.ListN.{length, getD, take, drop, length-take, length-drop}
@@ -13,6 +14,7 @@ use Rattle.address.specs.Limits.{firstBuckets}
 use Rattle.address.specs.declared.Image.{Image}
 use Rattle.layout.specs.Bytes.{Bytes, byteAt, leAt, leBytes, marked, allZero, edit, part}
 use Rattle.layout.specs.Bytes.Edit.{length-edit, edit-before, edit-in, edit-after, part-edit, part-before, part-after, part-at, part-is, same-bytes, edit-is, edit-bytes, part-bytes}
+use Rattle.layout.specs.Bytes.Tests.{and-left, and-both}
 use Rattle.layout.specs.Bytes.Numbers.{le-same, le-back, length-leBytes}
 use Rattle.address.specs.Rules.{address, level}
 use Rattle.bucket.specs.Region.{Ride, Whole, slotAt, countOf, ridesOf, slotBytes}
@@ -128,6 +130,92 @@ with-lent file region a at n ea en =
 pub state-written : (file : List ℕ) (state : Image) → edit 4 (leBytes 2 (state .pointer)) (edit 2 (state .level ∷ []) file) ≡ withState file state
 unfolding withState
 state-written file state = refl
+
+-- level and pointer are read back, and nothing else of the file is touched
+module _ (file : List ℕ) (state : Image) (headed : 16 ≤ length file) (low : state .pointer < 65536) where
+  levelled : List ℕ
+  levelled = edit 2 (state .level ∷ []) file
+
+  levelled-long : length levelled ≡ length file
+  unfolding levelled
+  levelled-long = length-edit 2 (state .level ∷ []) file (omega arith)
+
+  fits-pointer : 4 + length (leBytes 2 (state .pointer)) ≤ length levelled
+  fits-pointer = omega (arith, length-leBytes 2 (state .pointer), levelled-long)
+
+  state-edit : (P : List ℕ → Type 0) → P (edit 4 (leBytes 2 (state .pointer)) levelled) → P (withState file state)
+  unfolding withState levelled
+  state-edit P p = p
+
+  pub state-length : length (withState file state) ≡ length file
+  state-length = state-edit (λ (l : List ℕ). length l ≡ length file) (length-edit 4 (leBytes 2 (state .pointer)) levelled fits-pointer ∙ levelled-long)
+
+  state-before : (k : ℕ) → k < 2 → getD (withState file state) k 0 ≡ getD file k 0
+  unfolding levelled
+  state-before k h = state-edit (λ (l : List ℕ). getD l k 0 ≡ getD file k 0)
+      (edit-before 4 (leBytes 2 (state .pointer)) levelled fits-pointer k (omega arith) ∙ edit-before 2 (state .level ∷ []) file (omega arith) k h)
+
+  state-three : getD (withState file state) 3 0 ≡ getD file 3 0
+  unfolding levelled
+  state-three = state-edit (λ (l : List ℕ). getD l 3 0 ≡ getD file 3 0)
+      (edit-before 4 (leBytes 2 (state .pointer)) levelled fits-pointer 3 (omega arith) ∙ edit-after 2 (state .level ∷ []) file (omega arith) 3 (omega arith))
+
+  state-after : (k : ℕ) → 6 ≤ k → getD (withState file state) k 0 ≡ getD file k 0
+  unfolding levelled
+  state-after k h = state-edit (λ (l : List ℕ). getD l k 0 ≡ getD file k 0)
+      (edit-after 4 (leBytes 2 (state .pointer)) levelled fits-pointer k (omega (arith, length-leBytes 2 (state .pointer))) ∙ edit-after 2 (state .level ∷ []) file (omega arith) k (omega arith))
+
+  state-part : (at n : ℕ) → 6 ≤ at → at + n ≤ length file → part at n (withState file state) ≡ part at n file
+  unfolding levelled
+  state-part at n h fits = state-edit (λ (l : List ℕ). part at n l ≡ part at n file)
+      (part-after 4 (leBytes 2 (state .pointer)) levelled fits-pointer at n (omega (arith, length-leBytes 2 (state .pointer))) (omega (arith, levelled-long))
+      ∙ part-after 2 (state .level ∷ []) file (omega arith) at n (omega arith) fits)
+
+  pub state-slots : slotsOf (withState file state) ≡ slotsOf file
+  state-slots = state-after 8 (omega arith)
+
+  pub state-most : mostOf (withState file state) ≡ mostOf file
+  state-most = le-same 2 (withState file state) file 6 6 (λ k l. state-after (6 + k) (omega arith))
+
+  pub state-back-again : stateOf (withState file state) ≡ state
+  unfolding stateOf levelled
+  state-back-again = λ i. record { level = first i; pointer = second i }
+    where
+      first : getD (withState file state) 2 0 ≡ state .level
+      first = state-edit (λ (l : List ℕ). getD l 2 0 ≡ state .level)
+          (edit-before 4 (leBytes 2 (state .pointer)) levelled fits-pointer 2 (omega arith) ∙ edit-in 2 (state .level ∷ []) file (omega arith) 0 (omega arith))
+
+      second : leAt 2 (withState file state) 4 ≡ state .pointer
+      second = state-edit (λ (l : List ℕ). leAt 2 l 4 ≡ leAt 2 (leBytes 2 (state .pointer) ++ []) 0)
+          (le-same 2 (edit 4 (leBytes 2 (state .pointer)) levelled) (leBytes 2 (state .pointer) ++ []) 4 0
+          (λ k l. edit-in 4 (leBytes 2 (state .pointer)) levelled fits-pointer k (omega (arith, length-leBytes 2 (state .pointer)))
+          ∙ ap₂ (λ (b : List ℕ) (i : ℕ). getD b i 0) (sym (append-nil (leBytes 2 (state .pointer)))) (sym (zero-add k))))
+          ∙ le-back 2 (state .pointer) low []
+
+  pub state-header : headerSound file ≡ true → stateFits state (mostOf file) ≡ true → headerSound (withState file state) ≡ true
+  unfolding headerSound
+  state-header h fits =
+      ap₂ (λ (n : ℕ) (b : Bool). leb 16 n && b && figuresFit n (capacityOf written) (slotsOf written) (mostOf written) && stateFits (stateOf written) (mostOf written)) state-length fixed
+      ∙ ap₂ (λ (c S : ℕ). before && figuresFit (length file) c S (mostOf written) && stateFits (stateOf written) (mostOf written)) state-three state-slots
+      ∙ ap₂ (λ (M : ℕ) (s : Image). before && figuresFit (length file) (capacityOf file) (slotsOf file) M && stateFits s M) state-most state-back-again
+      ∙ and-both (before && figuresFit (length file) (capacityOf file) (slotsOf file) (mostOf file)) (stateFits state (mostOf file))
+      (and-left (before && figuresFit (length file) (capacityOf file) (slotsOf file) (mostOf file)) (stateFits (stateOf file) (mostOf file)) h) fits
+    where
+      written : List ℕ
+      written = withState file state
+
+      before : Bool
+      before = leb 16 (length file) && (marked file 0 fileMark && allZero (part 9 7 file))
+
+      fixed : (marked written 0 fileMark && allZero (part 9 7 written)) ≡ (marked file 0 fileMark && allZero (part 9 7 file))
+      fixed = ap₂ _&&_ (ap₂ (λ (x y : ℕ). eqb x 76 && eqb y 70) (state-before 0 (omega arith)) (state-before 1 (omega arith))) (ap allZero (state-part 9 7 (omega arith) (omega arith)))
+
+  pub state-region : Ranges file → (a : ℕ) → a < mostOf file → regionOf (withState file state) a ≡ regionOf file a
+  state-region seen a there =
+      region-is (withState file state) a
+      ∙ ap (λ (S : ℕ). part (startOf S a) (slotAt S) (withState file state)) state-slots
+      ∙ state-part (startOf (slotsOf file) a) (slotAt (slotsOf file)) (omega arith) (region-fits file seen a there)
+      ∙ sym (region-is file a)
 
 -- what a sound bucket of the file shows
 pub bucket-shown : (file : List ℕ) (a : ℕ) → bucketSoundIn file a ≡ true

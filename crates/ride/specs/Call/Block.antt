@@ -1,17 +1,17 @@
 -- The answer block's bytes, as they are written: 24 of them at once, and then a payload over the last 14.
-use Prim.Native.Nat.{ℕ, zero, suc, _+_, _*_, _/_, _%_, _≤_, _<_}
+use Prim.Native.Nat.{ℕ, zero, suc, _+_, _-_, _*_, _/_, _%_, _≤_, _<_}
 use mathlib.Core.Path.{_≡_, refl, sym, ap, ap₂, _∙_}
 use mathlib.Core.Bool.{Bool, true, false, cond}
 use mathlib.Core.List.{List, [], _∷_, _++_, append-nil}
 use native.Mathlib.Omega.{arith}
-use lib.Dec.{ltb}
+use lib.Dec.{ltb, eqb}
 use lib.ListN.{length, getD, take, drop, replicate}
 use Rattle.address.specs.Limits.{noBucket}
 use Rattle.layout.specs.Bytes.{leBytes, edit}
 use Rattle.layout.specs.Bytes.Edit.{edit-seam}
 use Rattle.layout.specs.Bytes.Numbers.{leBytes-two}
 use Rattle.ride.specs.declared.Walk.{Walk}
-use Rattle.ride.specs.Call.{entry, block, noPayload, noted}
+use Rattle.ride.specs.Call.{entry, block, noPayload, noted, forwardsIn}
 
 -- a route entry, chosen by the count
 abbrev pub shown : ℕ → ℕ → ℕ → ℕ
@@ -68,3 +68,8 @@ block-payload r flag way payload long =
 pub noted-none : (walk : Walk) → walk .count ≡ 0 → noted walk ≡ []
 unfolding noted
 noted-none walk e = rw e
+
+-- the forwards of a block, by whether it has 24 bytes
+pub forwards-judged : (answer : List ℕ) (fits : Bool) → eqb (length answer) 24 ≡ fits → cond fits (getD answer 1 0 - 1) 0 ≡ forwardsIn answer
+unfolding forwardsIn
+forwards-judged answer fits h = ap (λ (fit : Bool). cond fit (getD answer 1 0 - 1) 0) (sym h)

@@ -1,0 +1,116 @@
+-- What writing an image keeps: it is read back, every other record stays, so a sound table stays sound.
+-- A record is judged by its own eight bytes.
+use Prim.Native.Nat.{ℕ, suc, _+_, _*_, _/_, _%_, _≤_, _<_}
+use mathlib.Core.Path.{_≡_, refl, sym, ap, ap₂, _∙_}
+use mathlib.Core.Bool.{Bool, true, _&&_}
+use mathlib.Core.List.{List, [], _∷_, _++_}
+use mathlib.Core.Logic.{by-cases}
+use native.Mathlib.Decide.{ℕ-discrete, decLt}
+use native.Mathlib.Nat.{add-zero}
+use native.Mathlib.Omega.{arith}
+use borrow.Author.Tests.{lt-ltb, le-leb}
+use lib.Dec.{leb, ltb, eqb}
+use lib.ListN.{length, getD}
+use Rattle.address.specs.Limits.{firstBuckets, mostLevel}
+use Rattle.address.specs.declared.Image.{Image}
+use Rattle.address.specs.Rules.{«at», Formed, span}
+use Rattle.address.specs.Rules.Hash.{span-is, span-mono}
+use Rattle.layout.specs.Bytes.{byteAt, leAt, leBytes, marked, allBelow, edit}
+use Rattle.layout.specs.Bytes.Tests.{and-left, and-right, and-both, all-at, all-of}
+use Rattle.layout.specs.Bytes.Edit.{length-edit, edit-before, edit-in, edit-after}
+use Rattle.layout.specs.Bytes.Numbers.{le-same, le-two, leBytes-two}
+use Rattle.client.specs.Table.{clientMark, lengthSound, imageOf, recordFormed, imageFormed, recordSound, tableSound, imageBytes, withImage}
+
+-- the eight bytes of an image
+bytes-is : (image : Image) → imageBytes image ≡ 76 ∷ 67 ∷ image .level ∷ 0 ∷ image .pointer % 256 ∷ image .pointer / 256 % 256 ∷ 0 ∷ 0 ∷ []
+unfolding imageBytes
+bytes-is image = rw (leBytes-two (image .pointer))
+
+-- two records of the same bytes
+record-same : (table other : List ℕ) (client : ℕ) → ((k : ℕ) → k < 8 → getD other (8 * client + k) 0 ≡ getD table (8 * client + k) 0) → recordSound other client ≡ recordSound table client
+unfolding recordSound recordFormed imageOf
+record-same table other client same =
+    ap₂ _&&_
+    (ap₂ _&&_
+    (ap₂ _&&_ (ap₂ _&&_ (ap₂ _&&_ (ap (λ (x : ℕ). eqb x 76) first) (ap (λ (x : ℕ). eqb x 67) (same 1 (omega arith)))) (ap (λ (x : ℕ). eqb x 0) (same 3 (omega arith))))
+    (ap (λ (x : ℕ). eqb x 0) (same 6 (omega arith))))
+    (ap (λ (x : ℕ). eqb x 0) (same 7 (omega arith))))
+    (ap₂ (λ (l p : ℕ). imageFormed («at» l p)) (same 2 (omega arith)) number)
+  where
+    first : getD other (8 * client) 0 ≡ getD table (8 * client) 0
+    first = ap (λ (i : ℕ). getD other i 0) (sym (add-zero (8 * client))) ∙ same 0 (omega arith) ∙ ap (λ (i : ℕ). getD table i 0) (add-zero (8 * client))
+
+    number : leAt 2 other (8 * client + 4) ≡ leAt 2 table (8 * client + 4)
+    number = sym (le-two other (8 * client + 4)) ∙ ap₂ (λ (x y : ℕ). x + y * 256) (same 4 (omega arith)) (later other ∙ same 5 (omega arith) ∙ sym (later table)) ∙ le-two table (8 * client + 4)
+      where
+        later : (l : List ℕ) → getD l (8 * client + 4 + 1) 0 ≡ getD l (8 * client + 5) 0
+        later l = ap (λ (i : ℕ). getD l i 0) next
+          where
+            next : 8 * client + 4 + 1 ≡ 8 * client + 5
+            next = omega arith
+
+module _ (table : List ℕ) (client : ℕ) (image : Image) (fits : 8 * client + 8 ≤ length table) where
+  long : length (imageBytes image) ≡ 8
+  long = ap length (bytes-is image)
+
+  room : 8 * client + length (imageBytes image) ≤ length table
+  room = omega (arith, long)
+
+  pub written-length : length (withImage table client image) ≡ length table
+  unfolding withImage
+  written-length = length-edit (8 * client) (imageBytes image) table room
+
+  -- byte k of the record is byte k of the image
+  byte-here : (k : ℕ) → k < 8 → getD (withImage table client image) (8 * client + k) 0
+      ≡ getD (76 ∷ 67 ∷ image .level ∷ 0 ∷ image .pointer % 256 ∷ image .pointer / 256 % 256 ∷ 0 ∷ 0 ∷ []) k 0
+  unfolding withImage
+  byte-here k h = edit-in (8 * client) (imageBytes image) table room k (omega (arith, long)) ∙ ap (λ (l : List ℕ). getD l k 0) (bytes-is image)
+
+  pub written-other : (other : ℕ) → (other ≡ client → ⊥) → recordSound (withImage table client image) other ≡ recordSound table other
+  unfolding withImage
+  written-other other apart = record-same table (edit (8 * client) (imageBytes image) table) other
+      (λ k h. by-cases (decLt other client)
+      (λ l. edit-before (8 * client) (imageBytes image) table room (8 * other + k) (omega arith))
+      (λ l. edit-after (8 * client) (imageBytes image) table room (8 * other + k) (omega (arith, long, apart))))
+
+  module _ (low : image .level ≤ mostLevel) (formed : Formed firstBuckets image) where
+    small : image .pointer < 65536
+    small = omega (arith, formed, span-mono firstBuckets low, span-is firstBuckets mostLevel)
+
+    pub written-image : imageOf (withImage table client image) client ≡ image
+    unfolding imageOf
+    written-image = λ i. record { level = byte-here 2 (omega arith) i; pointer = number i }
+      where
+        second : getD (withImage table client image) (8 * client + 4 + 1) 0 ≡ image .pointer / 256 % 256
+        second = ap (λ (i : ℕ). getD (withImage table client image) i 0) next ∙ byte-here 5 (omega arith)
+          where
+            next : 8 * client + 4 + 1 ≡ 8 * client + 5
+            next = omega arith
+
+        number : leAt 2 (withImage table client image) (8 * client + 4) ≡ image .pointer
+        number = sym (le-two (withImage table client image) (8 * client + 4)) ∙ ap₂ (λ (x y : ℕ). x + y * 256) (byte-here 4 (omega arith)) second ∙ omega (arith, small)
+
+    pub written-sound : recordSound (withImage table client image) client ≡ true
+    unfolding recordSound recordFormed imageFormed
+    written-sound = rw (
+      ap (λ (i : ℕ). getD (withImage table client image) i 0) (sym (add-zero (8 * client))) ∙ byte-here 0 (omega arith),
+      byte-here 1 (omega arith),
+      byte-here 3 (omega arith),
+      byte-here 6 (omega arith),
+      byte-here 7 (omega arith),
+      written-image,
+      le-leb (image .level) mostLevel low,
+      lt-ltb (image .pointer) (span firstBuckets (image .level)) formed,
+    )
+
+    -- a sound table stays sound
+    pub table-kept : tableSound table ≡ true → tableSound (withImage table client image) ≡ true
+    unfolding tableSound lengthSound
+    table-kept h = and-both _ _
+        (ap (λ (n : ℕ). ltb 0 n && leb n 2048 && eqb (n % 8) 0) written-length ∙ and-left _ _ h)
+        (all-of (recordSound (withImage table client image)) (length (withImage table client image) / 8) each)
+      where
+        each : (k : ℕ) → k < length (withImage table client image) / 8 → recordSound (withImage table client image) k ≡ true
+        each k l = by-cases (ℕ-discrete k client)
+            (λ e. ap (recordSound (withImage table client image)) e ∙ written-sound)
+            (λ apart. written-other k apart ∙ all-at (recordSound table) (length table / 8) k (and-right (lengthSound table) _ h) (omega (arith, l, ap (λ (n : ℕ). n / 8) written-length)))

@@ -1,0 +1,155 @@
+/*
+ * lhstar: an LH* file over lent memory.
+ *
+ * The caller lends every buffer as a pointer and a length in bytes. No pointer is null, also not
+ * with length 0, and the buffers of one call do not overlap. The library keeps nothing between
+ * calls: the file buffer is the file, the table buffer holds the clients' images. Numbers of more
+ * than one byte are little-endian.
+ *
+ * The file is in state (i, n), its level and its split pointer, and has 2^i + n buckets. A client's
+ * image (i', n') is what it believes of that state. A key may therefore be sent to a bucket that is
+ * not its own and be sent on from there, at most twice; the buckets it comes by are its route.
+ */
+#ifndef LHSTAR_H
+#define LHSTAR_H
+
+#include <stddef.h>
+#include <stdint.h>
+
+#ifdef __cplusplus
+extern "C" {
+#endif
+
+/* The replies. A call gives the first, in the order named at the call, whose condition holds. */
+enum lhstar_reply {
+    LHSTAR_DONE = 0,            /* done, or found */
+    LHSTAR_ABSENT = 1,          /* search: the key is not in the file */
+    LHSTAR_TABLE_LENGTH = 2,    /* client table length 0, over 2048 or no multiple of 8 */
+    LHSTAR_NO_CLIENT = 3,       /* no such client */
+    LHSTAR_CLIENT_UNSOUND = 4,  /* client record ill formed, i' > 12 or n' >= 2^i' */
+    LHSTAR_HEADER_UNSOUND = 5,  /* file length or header unsound */
+    LHSTAR_CLIENT_AHEAD = 6,    /* the client believes in more buckets than the file has */
+    LHSTAR_BUCKET_UNSOUND = 7,  /* a bucket needed is unsound; its number is given */
+    LHSTAR_KEY_HELD = 8,        /* insert: the key is already held */
+    LHSTAR_BUCKET_FULL = 9,     /* insert: every slot of its bucket is in use */
+    LHSTAR_FILE_FULL = 10,      /* split: the file has its most buckets */
+    LHSTAR_VISITS_SHORT = 11,   /* scan: visit list shorter than the bucket count */
+    LHSTAR_MATCHES_SHORT = 12,  /* scan: match list shorter than the matches */
+    LHSTAR_FIGURES = 13,        /* create: figures out of range, or not the file's length */
+    LHSTAR_BLOCK_LENGTH = 14    /* answer block not 24 bytes, or insert's payload not 14 */
+};
+
+/* Stands where there is no bucket. */
+#define LHSTAR_NO_BUCKET 65535u
+
+/* Sizes in bytes. */
+#define LHSTAR_ANSWER_BYTES 24
+#define LHSTAR_PAYLOAD_BYTES 14
+#define LHSTAR_CLIENT_BYTES 8
+#define LHSTAR_HEADER_BYTES 16
+#define LHSTAR_HEAD_BYTES 8
+#define LHSTAR_SLOT_BYTES 24
+#define LHSTAR_REGION_BYTES(slots) (8UL + 24UL * (slots))
+#define LHSTAR_FILE_BYTES(slots, most) (16UL + (most) * LHSTAR_REGION_BYTES(slots))
+
+/*
+ * The answer block of insert and search, by the byte where each part starts. With replies 2 to 6
+ * there is no route; with 7 it ends at the unsound bucket. Reply 14 leaves the block as it was.
+ */
+#define LHSTAR_ANSWER_REPLY 0        /* the reply */
+#define LHSTAR_ANSWER_ROUTE_LENGTH 1 /* how many buckets the route has */
+#define LHSTAR_ANSWER_ROUTE 2        /* their numbers, 2 bytes each, LHSTAR_NO_BUCKET if unused */
+#define LHSTAR_ANSWER_SPLIT_DUE 8    /* 1 if an accepted insert left more than b records, else 0 */
+#define LHSTAR_ANSWER_PAYLOAD 10     /* the payload that a search found, else zeros */
+#define LHSTAR_ROUTE_MOST 3          /* the most buckets of a route */
+
+/*
+ * Makes a file without records in state (0, 0): capacity b of 1 to slots, 1 to 64 slots for each
+ * bucket, 1 to 4096 buckets at most, in exactly LHSTAR_FILE_BYTES(slots, most) bytes.
+ * Replies: 13, else 0. Refused, it leaves the buffer untouched.
+ */
+uint8_t lhstar_create(uint8_t *file, size_t file_length,
+                      uint64_t capacity, uint64_t slots, uint64_t most);
+
+/*
+ * Writes the image (0, 0) into the client's record, over any old content. The table has 1 to 256
+ * records of 8 bytes; the first client is 0.
+ * Replies: 2, 3, else 0. Refused, it leaves the table untouched.
+ */
+uint8_t lhstar_join(uint8_t *table, size_t table_length, uint64_t client);
+
+/*
+ * Inserts a record of key and payload by the client's image. The key's upper 32 bits are the lift,
+ * its lower 32 bits the ride.
+ * Replies: 14, 2, 3, 4, 5, 6, 7 (the first unsound bucket on the route), 8, 9, else 0. Fills the
+ * answer block, save with 14. With 0 the record stands in its bucket's first free slot. With 0, 8
+ * and 9 the image is adjusted if the first bucket sent the key on. Else file and table stay
+ * untouched. It never splits: the block's byte 8 says that a split is due.
+ */
+uint8_t lhstar_insert(uint8_t *file, size_t file_length,
+                      uint8_t *table, size_t table_length, uint64_t client, uint64_t key,
+                      const uint8_t *payload, size_t payload_length,
+                      uint8_t *answer, size_t answer_length);
+
+/*
+ * Searches a key by the client's image.
+ * Replies: 14, 2, 3, 4, 5, 6, 7 (the first unsound bucket on the route), 1 (absent), else 0. Fills
+ * the answer block, save with 14. With 0 and 1 the image is adjusted if the first bucket sent the
+ * key on. Else the table stays untouched.
+ */
+uint8_t lhstar_search(const uint8_t *file, size_t file_length,
+                      uint8_t *table, size_t table_length, uint64_t client, uint64_t key,
+                      uint8_t *answer, size_t answer_length);
+
+/*
+ * How often the key of a filled answer block was sent on: the route's buckets less one; 0 without a
+ * route or if the block is not 24 bytes. Gives no reply and changes nothing.
+ */
+uint32_t lhstar_forwards(const uint8_t *answer, size_t answer_length);
+
+/* With 0 the bucket that was split and its new one; with 7 the unsound bucket first. Else none. */
+struct lhstar_split_answer {
+    uint32_t reply;
+    uint32_t old_bucket;
+    uint32_t new_bucket;
+};
+
+/*
+ * Splits bucket n into n and n + 2^i and moves the split pointer on; clients learn of it by their
+ * own calls.
+ * Replies: 5, 10, 7 (bucket n, then the new region), else 0. Refused, it leaves the file untouched.
+ */
+struct lhstar_split_answer lhstar_split(uint8_t *file, size_t file_length);
+
+/* With 7 the lowest unsound region, else LHSTAR_NO_BUCKET. */
+struct lhstar_check_answer {
+    uint32_t reply;
+    uint32_t bucket;
+};
+
+/*
+ * Judges the whole file: header and all regions, those past the last bucket too.
+ * Replies: 5, 7, else 0. Changes nothing.
+ */
+struct lhstar_check_answer lhstar_check(const uint8_t *file, size_t file_length);
+
+/* A part of the file: its first byte's place and its length; 0 and 0 where it is empty. */
+struct lhstar_view_answer {
+    uint64_t start;
+    uint64_t length;
+};
+
+/*
+ * Where a bucket's used slots stand in the file, no copy. The part is empty if the header is
+ * unsound, the number is too high or the bucket is unsound. Gives no reply and changes nothing.
+ */
+struct lhstar_view_answer lhstar_view(const uint8_t *file, size_t file_length, uint64_t bucket);
+
+/* The bucket that this one was split from; LHSTAR_NO_BUCKET for bucket 0. Gives no reply. */
+uint32_t lhstar_parent(uint16_t bucket);
+
+#ifdef __cplusplus
+}
+#endif
+
+#endif

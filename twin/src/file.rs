@@ -1,0 +1,190 @@
+//! The file: its header, its regions, and the calls that need no client.
+
+use crate::bucket::{self, HEAD_LENGTH, MOST_SLOTS, SLOT_LENGTH};
+use crate::rules::State;
+use crate::{reply, NONE};
+
+const HEADER_LENGTH: usize = 16;
+const MARK: [u8; 2] = *b"LF";
+const MOST_BUCKETS: u64 = 4_096;
+const HIGHEST_LEVEL: u8 = 12;
+
+/// A sound header, read once in a call.
+#[derive(Clone, Copy, Debug)]
+pub struct Header {
+    pub state: State,
+    pub capacity: usize,
+    pub slots: usize,
+    pub most: u32,
+}
+
+/// Whether the figures are in range and the length is theirs.
+fn figures_fit(length: usize, capacity: u64, slots: u64, most: u64) -> bool {
+    let in_range = (1..=MOST_SLOTS as u64).contains(&slots)
+        && (1..=slots).contains(&capacity)
+        && (1..=MOST_BUCKETS).contains(&most);
+    in_range && length == HEADER_LENGTH + most as usize * region_length(slots as usize)
+}
+
+fn region_length(slots: usize) -> usize {
+    HEAD_LENGTH + SLOT_LENGTH * slots
+}
+
+impl Header {
+    /// The header of a file, if it and the file's length are sound.
+    #[inline]
+    pub fn read(file: &[u8]) -> Option<Header> {
+        let head: &[u8; HEADER_LENGTH] = file.first_chunk()?;
+        let [first, second, level, capacity, n_low, n_high, m_low, m_high, slots, zeros @ ..] = *head;
+        let pointer = u32::from(u16::from_le_bytes([n_low, n_high]));
+        let most = u16::from_le_bytes([m_low, m_high]);
+        if [first, second] != MARK
+            || zeros != [0; 7]
+            || level > HIGHEST_LEVEL
+            || !figures_fit(file.len(), capacity.into(), slots.into(), most.into())
+        {
+            return None;
+        }
+        let state = State { level: level.into(), pointer };
+        let most = most.into();
+        if pointer >= 1 << level || state.bucket_count() > most {
+            return None;
+        }
+        Some(Header { state, capacity: capacity.into(), slots: slots.into(), most })
+    }
+
+    /// Where a bucket's region starts in the file.
+    #[inline]
+    pub fn region_start(&self, bucket: u32) -> usize {
+        HEADER_LENGTH + bucket as usize * region_length(self.slots)
+    }
+
+    #[inline]
+    pub fn region<'file>(&self, file: &'file [u8], bucket: u32) -> &'file [u8] {
+        &file[self.region_start(bucket)..self.region_start(bucket + 1)]
+    }
+
+    #[inline]
+    pub fn region_mut<'file>(&self, file: &'file mut [u8], bucket: u32) -> &'file mut [u8] {
+        &mut file[self.region_start(bucket)..self.region_start(bucket + 1)]
+    }
+
+    /// One bucket's count of records, if the bucket is sound; `look` sees each slot and key.
+    #[inline]
+    pub fn judge(&self, file: &[u8], bucket: u32, look: impl FnMut(usize, u64)) -> Option<usize> {
+        bucket::judge(self.region(file, bucket), bucket, self.state.level_of(bucket), look)
+    }
+}
+
+fn write_state(file: &mut [u8], state: State) {
+    file[2] = state.level as u8;
+    file[4..6].copy_from_slice(&(state.pointer as u16).to_le_bytes());
+}
+
+/// Writes the sound file in state (0, 0) without records.
+pub fn create(file: &mut [u8], capacity: u64, slots: u64, most: u64) -> u8 {
+    if !figures_fit(file.len(), capacity, slots, most) {
+        return reply::FIGURES;
+    }
+    file.fill(0);
+    file[..2].copy_from_slice(&MARK);
+    file[3] = capacity as u8;
+    file[6..8].copy_from_slice(&(most as u16).to_le_bytes());
+    file[8] = slots as u8;
+    bucket::write_head(&mut file[HEADER_LENGTH..], 0, 0);
+    reply::DONE
+}
+
+#[repr(C)]
+#[derive(Clone, Copy, Debug, PartialEq, Eq)]
+pub struct CheckAnswer {
+    pub reply: u32,
+    pub bucket: u32,
+}
+
+/// Judges the header and all regions.
+pub fn check(file: &[u8]) -> CheckAnswer {
+    let (reply, bucket) = match Header::read(file) {
+        None => (reply::HEADER, u32::from(NONE)),
+        Some(header) => match lowest_unsound(&header, file) {
+            Some(bucket) => (reply::UNSOUND, bucket),
+            None => (reply::DONE, u32::from(NONE)),
+        },
+    };
+    CheckAnswer { reply: reply.into(), bucket }
+}
+
+fn lowest_unsound(header: &Header, file: &[u8]) -> Option<u32> {
+    let buckets = header.state.bucket_count();
+    let bucket = (0..buckets).find(|&bucket| header.judge(file, bucket, |_, _| ()).is_none());
+    bucket.or_else(|| {
+        let past = header.region_start(buckets);
+        if bucket::all_zero(&file[past..]) {
+            return None;
+        }
+        (buckets..header.most).find(|&region| !bucket::all_zero(header.region(file, region)))
+    })
+}
+
+#[repr(C)]
+#[derive(Clone, Copy, Debug, PartialEq, Eq)]
+pub struct SplitAnswer {
+    pub reply: u32,
+    pub old_bucket: u32,
+    pub new_bucket: u32,
+}
+
+impl SplitAnswer {
+    fn refused(reply: u8, bucket: u32) -> SplitAnswer {
+        SplitAnswer { reply: reply.into(), old_bucket: bucket, new_bucket: NONE.into() }
+    }
+}
+
+/// Splits the bucket at the pointer.
+pub fn split(file: &mut [u8]) -> SplitAnswer {
+    let Some(header) = Header::read(file) else {
+        return SplitAnswer::refused(reply::HEADER, NONE.into());
+    };
+    let old_bucket = header.state.pointer;
+    let new_bucket = header.state.bucket_count();
+    if new_bucket == header.most {
+        return SplitAnswer::refused(reply::ALL_BUCKETS, NONE.into());
+    }
+    let Some(count) = header.judge(file, old_bucket, |_, _| ()) else {
+        return SplitAnswer::refused(reply::UNSOUND, old_bucket);
+    };
+    if !bucket::all_zero(header.region(file, new_bucket)) {
+        return SplitAnswer::refused(reply::UNSOUND, new_bucket);
+    }
+    let (lower, upper) = file.split_at_mut(header.region_start(new_bucket));
+    let old = header.region_mut(lower, old_bucket);
+    let newborn = &mut upper[..region_length(header.slots)];
+    bucket::divide(old, newborn, count, header.state.level);
+    write_state(file, header.state.grown());
+    SplitAnswer { reply: reply::DONE.into(), old_bucket, new_bucket }
+}
+
+#[repr(C)]
+#[derive(Clone, Copy, Debug, Default, PartialEq, Eq)]
+pub struct ViewAnswer {
+    pub start: u64,
+    pub length: u64,
+}
+
+/// Where a bucket's used slots stand in the file; 0 and 0 where there are none.
+pub fn view(file: &[u8], bucket: u64) -> ViewAnswer {
+    let Some(header) = Header::read(file) else {
+        return ViewAnswer::default();
+    };
+    if bucket >= header.state.bucket_count().into() {
+        return ViewAnswer::default();
+    }
+    let bucket = bucket as u32;
+    match header.judge(file, bucket, |_, _| ()) {
+        None | Some(0) => ViewAnswer::default(),
+        Some(count) => {
+            let start = header.region_start(bucket) + HEAD_LENGTH;
+            ViewAnswer { start: start as u64, length: (count * SLOT_LENGTH) as u64 }
+        }
+    }
+}

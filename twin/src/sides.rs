@@ -1,0 +1,55 @@
+//! The two sides of every comparison: the proved library and the twin.
+
+use crate::{ffi, CheckAnswer, ScanAnswer, SplitAnswer, ViewAnswer};
+
+pub type Insert = fn(&mut [u8], &mut [u8], u64, u64, &[u8], &mut [u8]) -> u8;
+pub type Search = fn(&[u8], &mut [u8], u64, u64, &mut [u8]) -> u8;
+pub type Scan = fn(&[u8], &[u8], u64, u32, &mut [u16], &mut [u64]) -> ScanAnswer;
+
+/// One side's functions.
+pub struct Side {
+    pub create: fn(&mut [u8], u64, u64, u64) -> u8,
+    pub join: fn(&mut [u8], u64) -> u8,
+    pub insert: Insert,
+    pub search: Search,
+    pub split: fn(&mut [u8]) -> SplitAnswer,
+    pub check: fn(&[u8]) -> CheckAnswer,
+    pub scan: Option<Scan>,
+    pub view: fn(&[u8], u64) -> ViewAnswer,
+    pub parent: fn(u16) -> u32,
+    pub forwards: fn(&[u8]) -> u32,
+}
+
+#[cfg(feature = "scan")]
+const LIBRARY_SCAN: Option<Scan> = Some(ffi::scan);
+#[cfg(not(feature = "scan"))]
+const LIBRARY_SCAN: Option<Scan> = None;
+
+/// Whether both sides scan.
+pub const SCANS: bool = LIBRARY_SCAN.is_some();
+
+pub const LIBRARY: Side = Side {
+    create: ffi::create,
+    join: ffi::join,
+    insert: ffi::insert,
+    search: ffi::search,
+    split: ffi::split,
+    check: ffi::check,
+    scan: LIBRARY_SCAN,
+    view: ffi::view,
+    parent: ffi::parent,
+    forwards: ffi::forwards,
+};
+
+pub const TWIN: Side = Side {
+    create: crate::create,
+    join: crate::join,
+    insert: crate::insert,
+    search: crate::search,
+    split: crate::split,
+    check: crate::check,
+    scan: Some(crate::scan),
+    view: crate::view,
+    parent: crate::parent,
+    forwards: crate::forwards,
+};
