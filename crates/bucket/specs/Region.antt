@@ -78,7 +78,7 @@ distinct [] = true
 distinct (key ∷ keys) = every (λ other. not (eqb key other)) keys && distinct keys
 
 -- A region of S slots is sound at a level if its head is well formed, its level is that one, its count is at most S, its slots in use come first,
--- an unused slot is all zero, each of its keys passes the test of its own bucket, and no key stands twice.
+-- an unused slot is all zero, each of its keys passes the test of its own bucket, and no key stands twice. Its length is the file's matter.
 pub headSound : ℕ → ℕ → List ℕ → Bool
 headSound S j region = headFormed region && eqb (levelOf region) j && leb (countOf region) S
 

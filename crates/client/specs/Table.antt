@@ -17,11 +17,11 @@ use Rattle.layout.specs.Replies.{Refusal, refuse, reply}
 abbrev pub clientMark : List ℕ
 clientMark = 76 ∷ 67 ∷ []
 
--- 2: client table length 0, over 2,048 or no multiple of 8.
+-- A table's length passes 2 unless it is 0, over 2,048 or no multiple of 8.
 pub lengthSound : List ℕ → Bool
 lengthSound table = ltb 0 (length table) && leb (length table) mostTable && eqb (length table % 8) 0
 
--- 3: no such client.
+-- A client passes 3 if there is such a one.
 pub exists : List ℕ → ℕ → Bool
 exists table client = ltb client (length table / 8)
 
@@ -29,7 +29,7 @@ exists table client = ltb client (length table / 8)
 pub imageOf : List ℕ → ℕ → Image
 imageOf table client = «at» (byteAt table (8 * client + 2)) (leAt 2 table (8 * client + 4))
 
--- 4: client record ill formed, i' > 12 or n' ≥ 2^i'.
+-- A client record passes 4 unless it is ill formed, i' > 12 or n' ≥ 2^i'.
 pub recordFormed : List ℕ → ℕ → Bool
 recordFormed table client =
     marked table (8 * client) clientMark && eqb (byteAt table (8 * client + 3)) 0 && eqb (byteAt table (8 * client + 6)) 0 && eqb (byteAt table (8 * client + 7)) 0

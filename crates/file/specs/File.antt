@@ -1,4 +1,4 @@
--- A file as document 01 lays it out: a header of 16 bytes, then M regions of 8 + 24·S bytes. When it is sound, and what create, check and view give.
+-- A file as document 01 lays it out: a header of 16 bytes, then M regions of 8 + 24·S bytes. When it is sound, and what create, check, view and split give.
 pub mod Judge
 pub mod Region
 pub mod Create

@@ -1,4 +1,4 @@
--- Where the regions lie: within the file, one behind the other; what is written to one leaves the header and every other as it was.
+-- Where the regions lie: within the file, one behind the other; how each is judged, and what check and view say of them.
 use Prim.Native.Nat.{ℕ, suc, _+_, _*_, _-_, _≤_, _<_}
 use mathlib.Core.Path.{_≡_, refl, sym, ap, ap₂, _∙_}
 use mathlib.Core.Bool.{Bool, true, false, cond, not, _&&_}

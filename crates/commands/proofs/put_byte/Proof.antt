@@ -1,0 +1,20 @@
+-- `commands::put_byte` stores the byte, which is to write it over what stood there.
+use Rattle.commands.specs.Print.Edit.{wrote-byte}
+use borrow.Author.Needs.{needs}
+use Rattle.commands.proofs.put_byte.Statement.{statement}
+use Rattle.commands.proofs.put_byte.Tie as tie
+
+slice-write-out : tie.Need-slice-write-out
+slice-write-out c = search needs
+
+add-result : tie.Need-add-result
+add-result c = search needs
+
+same-length : tie.Need-same-length
+same-length c = search needs
+
+returns : tie.Need-returns
+returns c = wrote-byte (c .args .at) (c .args .byte) (c .args .out .now) (c .pre)
+
+pub put-byte-spec : {M : Type 1} → statement M
+put-byte-spec = tie.close (tie.spec slice-write-out add-result same-length returns)

@@ -1,0 +1,22 @@
+-- `commands::put_unknown` writes its two bytes side by side.
+use Rattle.commands.specs.Print.{unknownLine}
+use Rattle.commands.specs.Print.Edit.{wrote-both}
+use borrow.Author.Needs.{needs}
+use Rattle.commands.proofs.put_unknown.Statement.{statement}
+use Rattle.commands.proofs.put_unknown.Tie as tie
+
+put-byte-requires : tie.Need-put-byte-requires
+put-byte-requires c κs = search needs
+
+put-byte-requires-2 : tie.Need-put-byte-requires-2
+put-byte-requires-2 c κs = search needs
+
+same-length : tie.Need-same-length
+same-length c = search needs
+
+returns : tie.Need-returns
+unfolding unknownLine
+returns c = wrote-both (c .before .before .before .before .before .before .put-byte .ensures) (c .before .before .put-byte2 .ensures)
+
+pub put-unknown-spec : {M : Type 1} → statement M
+put-unknown-spec = tie.close (tie.spec put-byte-requires put-byte-requires-2 same-length returns)

@@ -1,0 +1,102 @@
+-- Reading a number digit by digit: each step keeps what is still to be read the same, and a byte that is no digit, or a number past the limit,
+-- spoils it for good.
+use Prim.Native.Nat.{ℕ, _+_, _-_, _*_, _≤_, _<_}
+use mathlib.Core.Path.{_≡_, refl, _∙_}
+use mathlib.Core.Bool.{Bool, true, false, cond, _&&_, and-false}
+use mathlib.Core.List.{List, [], _∷_}
+use native.Mathlib.Numerals.{add-one}
+use native.Mathlib.Omega.{arith}
+use borrow.Author.Tests.{lt-ltb, le-ltb, le-leb, lt-leb, eq-eqb, ne-eqb}
+use lib.Dec.{ltb}
+use lib.ListN.{length, getD, drop, drop-of-length-le}
+use lib.Seq.{drop-cons}
+use Rattle.commands.specs.Bytes.{digit0, digit9}
+use Rattle.commands.specs.Number.{allDigits, noSpareZero, spelled, value, isNumber, numberFrom, numberOf}
+use Rattle.commands.specs.declared.Number.the-variants.{Value, Malformed}
+
+pub spelled-least : (v : ℕ) (bs : List ℕ) → v ≤ spelled v bs
+unfolding spelled
+spelled-least v [] = omega arith
+spelled-least v (b ∷ bs) = omega (arith, spelled-least (v * 10 + (b - digit0)) bs)
+
+number-past : (limit v : ℕ) → limit ≤ v → (bs : List ℕ) → numberFrom limit v bs ≡ Malformed
+unfolding numberFrom
+number-past limit v h bs = rw (le-ltb (spelled v bs) limit (omega (arith, spelled-least v bs)), and-false)
+
+module _ (limit v : ℕ) where
+  pub from-end : (bytes : List ℕ) (i : ℕ) → length bytes ≤ i → v < limit → numberFrom limit v (drop i bytes) ≡ Value v
+  unfolding numberFrom allDigits spelled
+  from-end bytes i over h = rw (drop-of-length-le bytes over, lt-ltb _ _ h)
+
+  module _ (bytes : List ℕ) (i : ℕ) (inside : i < length bytes) where
+    pub from-low : getD bytes i 0 < digit0 → numberFrom limit v (drop i bytes) ≡ Malformed
+    unfolding numberFrom allDigits
+    from-low h = rw (drop-cons bytes i 0 inside, lt-leb _ _ h)
+
+    pub from-high : digit9 < getD bytes i 0 → numberFrom limit v (drop i bytes) ≡ Malformed
+    unfolding numberFrom allDigits
+    from-high h = rw (drop-cons bytes i 0 inside, lt-leb (getD bytes i 0) _ h, and-false)
+
+    pub from-digit : (w : ℕ) → w ≡ getD bytes i 0 → digit0 ≤ w → w ≤ digit9
+        → numberFrom limit v (drop i bytes) ≡ numberFrom limit (v * 10 + (w - digit0)) (drop (i + 1) bytes)
+    unfolding numberFrom allDigits spelled
+    from-digit w e h l = rw (drop-cons bytes i 0 inside, ← e, le-leb digit0 w h, le-leb w digit9 l, add-one)
+
+    pub from-over : (w : ℕ) → w ≡ getD bytes i 0 → digit0 ≤ w → w ≤ digit9 → limit ≤ v * 10 + (w - digit0)
+        → numberFrom limit v (drop i bytes) ≡ Malformed
+    from-over w e h l past = from-digit w e h l ∙ number-past limit _ past _
+
+-- a field by its length and its first byte: none, one digit, a spare zero, or no spare zero
+module _ (limit : ℕ) where
+  number-lean : (bs : List ℕ) → noSpareZero bs ≡ true → numberOf limit bs ≡ numberFrom limit 0 bs
+  unfolding numberOf isNumber numberFrom value
+  number-lean bs h = rw h (lean (allDigits bs))
+    where
+      lean : (t : Bool) → cond (t && true && ltb (spelled 0 bs) limit) (Value (spelled 0 bs)) Malformed
+          ≡ cond (t && ltb (spelled 0 bs) limit) (Value (spelled 0 bs)) Malformed
+      lean true = refl
+      lean false = refl
+
+  number-spare : (bs : List ℕ) → noSpareZero bs ≡ false → numberOf limit bs ≡ Malformed
+  unfolding numberOf isNumber
+  number-spare bs h = rw (h, and-false)
+
+  pub number-none : (bs : List ℕ) → length bs ≡ 0 → numberOf limit bs ≡ Malformed
+  unfolding noSpareZero
+  number-none [] h = number-spare [] refl
+  number-none (b ∷ bs) h = absurd (omega arith)
+
+  pub number-one : (bs : List ℕ) → length bs ≡ 1 → numberOf limit bs ≡ numberFrom limit 0 bs
+  unfolding noSpareZero
+  number-one [] h = absurd (omega arith)
+  number-one (b ∷ []) h = number-lean (b ∷ []) refl
+  number-one (b ∷ c ∷ cs) h = absurd (omega arith)
+
+  pub number-zero : (bs : List ℕ) → 1 < length bs → getD bs 0 0 ≡ digit0 → numberOf limit bs ≡ Malformed
+  unfolding noSpareZero
+  number-zero [] h e = absurd (omega arith)
+  number-zero (b ∷ []) h e = absurd (omega arith)
+  number-zero (b ∷ c ∷ cs) h e = number-spare (b ∷ c ∷ cs) (rw (eq-eqb b digit0 e))
+
+  pub number-many : (bs : List ℕ) → 1 < length bs → (getD bs 0 0 ≡ digit0 → ⊥) → numberOf limit bs ≡ numberFrom limit 0 bs
+  unfolding noSpareZero
+  number-many [] h e = absurd (omega arith)
+  number-many (b ∷ []) h e = absurd (omega arith)
+  number-many (b ∷ c ∷ cs) h e = number-lean (b ∷ c ∷ cs) (rw (ne-eqb b digit0 e))
+
+  -- what a reading tells
+  pub number-good : (bs : List ℕ) (n : ℕ) → numberOf limit bs ≡ Value n → (isNumber limit bs ≡ true) × (value bs ≡ n)
+  unfolding numberOf
+  number-good bs n e = good (isNumber limit bs) e
+    where
+      good : (t : Bool) → cond t (Value (value bs)) Malformed ≡ Value n → (t ≡ true) × (value bs ≡ n)
+      good true e = (refl, cc)
+      good false e = let z : _≡_ {A = ℕ} 0 1 = cc in absurd (omega arith)
+
+  pub number-bad : (bs : List ℕ) → numberOf limit bs ≡ Malformed → isNumber limit bs ≡ false
+  unfolding numberOf
+  number-bad bs e = bad (isNumber limit bs) e
+    where
+      bad : (t : Bool) → cond t (Value (value bs)) Malformed ≡ Malformed → t ≡ false
+      bad true e = let z : _≡_ {A = ℕ} 0 1 = cc in absurd (omega arith)
+      bad false e = refl

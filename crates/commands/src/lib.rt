@@ -1,0 +1,256 @@
+// The text of the program: a line read as a command, and answers written as lines. Bytes and numbers
+// only; `specs/Line.antt` has the grammar, `specs/Print.antt` the lines.
+ghost use mathlib.Core.Path.{_≡_};
+ghost use mathlib.Core.List.{[], _∷_};
+ghost use Prim.Native.Nat.{_+_, _≤_, _<_};
+ghost use lib.ListN.{length};
+ghost use Rattle.commands.specs.Number.{numberOf, numberFrom, decimal};
+ghost use Rattle.commands.specs.Line.{placeOf, lineEnd, limitAfter, named, ofNumbers, commandOf};
+ghost use Rattle.commands.specs.Print.{Wrote, eachAfter, joined, unknownLine, heading, answerLine, scanned, scanLine, lineRoom};
+
+// What a line asks for: a split; an insert or a search by client and key; a scan by client and lift.
+pub enum Command {
+    Split,
+    Insert(u64, u64),
+    Search(u64, u64),
+    Scan(u64, u64),
+    Unknown,
+}
+
+// What a field is where a number is due.
+enum Number {
+    Value(u64),
+    Malformed,
+}
+
+const MOST: u64 = 18446744073709551615;
+
+const MOST_LIFT: u64 = 4294967295;
+
+// The place of the first such byte at or after a place, or the end.
+fn find(bytes: &[u8], from: usize, byte: u8) -> usize
+    requires { ⌜ from ≤ length (now bytes) ⌝ }
+    ensures { λ r. ⌜ (r ≡ placeOf byte (now (bytes .entry)) from) × (from ≤ r) × (r ≤ length (now (bytes .entry))) ⌝ }
+{
+    let mut i = from;
+    while i < bytes.len() {
+        if bytes[i] == byte {
+            return i;
+        }
+        i += 1;
+    }
+    i
+}
+
+// The place of the line feed that ends the line which starts at a place, or the input's end.
+pub fn line_end(input: &[u8], from: usize) -> usize
+    requires { ⌜ from ≤ length (now input) ⌝ }
+    ensures { λ r. ⌜ (r ≡ lineEnd (now (input .entry)) from) × (from ≤ r) × (r ≤ length (now (input .entry))) ⌝ }
+{
+    find(input, from, b'\n')
+}
+
+// The number that a field's digits spell, if it is at most `most`.
+fn read_digits(field: &[u8], most: u64) -> Number
+    ensures { λ r. ⌜ r ≡ numberFrom (most + 1) 0 (now (field .entry)) ⌝ }
+{
+    let mut value: u64 = 0;
+    let mut i = 0;
+    while i < field.len() {
+        let byte = field[i];
+        if byte < b'0' {
+            return Number::Malformed;
+        }
+        if b'9' < byte {
+            return Number::Malformed;
+        }
+        let digit = layout::wide(byte) - 48;
+        if most / 10 < value {
+            return Number::Malformed;
+        }
+        if most - value * 10 < digit {
+            return Number::Malformed;
+        }
+        value = value * 10 + digit;
+        i += 1;
+    }
+    Number::Value(value)
+}
+
+// The number that a field is, without spare zeros and at most `most`.
+fn read_number(field: &[u8], most: u64) -> Number
+    ensures { λ r. ⌜ r ≡ numberOf (most + 1) (now (field .entry)) ⌝ }
+{
+    if field.len() == 0 {
+        return Number::Malformed;
+    }
+    if field.len() == 1 {
+        return read_digits(field, most);
+    }
+    if field[0] == b'0' {
+        return Number::Malformed;
+    }
+    read_digits(field, most)
+}
+
+// The greatest second number of a letter's command.
+fn most_after(letter: u8) -> u64
+    ensures { λ r. ⌜ r + 1 ≡ limitAfter letter ⌝ }
+{
+    if letter == b'A' {
+        return MOST_LIFT;
+    }
+    MOST
+}
+
+// The command of a letter and two numbers.
+fn command_named(letter: u8, client: u64, number: u64) -> Command
+    ensures { λ r. ⌜ r ≡ named letter client number ⌝ }
+{
+    if letter == b'I' {
+        return Command::Insert(client, number);
+    }
+    if letter == b'S' {
+        return Command::Search(client, number);
+    }
+    if letter == b'A' {
+        return Command::Scan(client, number);
+    }
+    Command::Unknown
+}
+
+// The command of a letter and two fields.
+fn command_of(letter: u8, one: &[u8], two: &[u8]) -> Command
+    ensures { λ r. ⌜ r ≡ ofNumbers letter (now (one .entry)) (now (two .entry)) ⌝ }
+{
+    let Number::Value(client) = read_number(one, MOST) else {
+        return Command::Unknown;
+    };
+    let Number::Value(number) = read_number(two, most_after(letter)) else {
+        return Command::Unknown;
+    };
+    command_named(letter, client, number)
+}
+
+// The command that a line is.
+pub fn read_command(line: &[u8]) -> Command
+    ensures { λ r. ⌜ r ≡ commandOf (now (line .entry)) ⌝ }
+{
+    if find(line, 0, b' ') != 1 {
+        return Command::Unknown;
+    }
+    let letter = line[0];
+    if line.len() == 1 {
+        if letter == b'G' {
+            return Command::Split;
+        }
+        return Command::Unknown;
+    }
+    let end = find(line, 2, b' ');
+    if end == line.len() {
+        return Command::Unknown;
+    }
+    let next = end + 1;
+    command_of(letter, &line[2..end], &line[next..])
+}
+
+// Writes one byte.
+pub fn put_byte(out: &mut [u8], at: usize, byte: u8) -> usize
+    requires { ⌜ at < length (now out) ⌝ }
+    ensures { λ r. ⌜ Wrote at (byte ∷ []) (now (out .entry)) (now (out .exit)) r ⌝ }
+{
+    out[at] = byte;
+    at + 1
+}
+
+// Writes a number's decimal digits.
+pub fn put_number(out: &mut [u8], at: usize, x: u64) -> usize
+    requires { ⌜ at + length (decimal x) ≤ length (now out) ⌝ }
+    ensures { λ r. ⌜ Wrote at (decimal x) (now (out .entry)) (now (out .exit)) r ⌝ }
+{
+    if x < 10 {
+        return put_byte(out, at, (48 + x) as u8);
+    }
+    let next = put_number(out, at, x / 10);
+    put_byte(out, next, (48 + x % 10) as u8)
+}
+
+// Writes each number after a separator.
+fn put_each(out: &mut [u8], at: usize, separator: u8, numbers: &[u16]) -> usize
+    requires { ⌜ at + length (eachAfter separator (now numbers)) ≤ length (now out) ⌝ }
+    ensures { λ r. ⌜ Wrote at (eachAfter separator (now (numbers .entry))) (now (out .entry)) (now (out .exit)) r ⌝ }
+{
+    let mut next = at;
+    let mut i = 0;
+    while i < numbers.len() {
+        next = put_byte(out, next, separator);
+        next = put_number(out, next, numbers[i] as u64);
+        i += 1;
+    }
+    next
+}
+
+// Writes numbers with a separator between them, or `-` if there is none.
+fn put_joined(out: &mut [u8], at: usize, separator: u8, numbers: &[u16]) -> usize
+    requires { ⌜ at + length (joined separator (now numbers)) ≤ length (now out) ⌝ }
+    ensures { λ r. ⌜ Wrote at (joined separator (now (numbers .entry))) (now (out .entry)) (now (out .exit)) r ⌝ }
+{
+    if numbers.len() == 0 {
+        return put_byte(out, at, b'-');
+    }
+    let next = put_number(out, at, numbers[0] as u64);
+    put_each(out, next, separator, &numbers[1..])
+}
+
+// Writes the line of an unknown command.
+pub fn put_unknown(out: &mut [u8], at: usize) -> usize
+    requires { ⌜ at + lineRoom 0 ≤ length (now out) ⌝ }
+    ensures { λ r. ⌜ Wrote at unknownLine (now (out .entry)) (now (out .exit)) r ⌝ }
+{
+    let next = put_byte(out, at, b'?');
+    put_byte(out, next, b'\n')
+}
+
+// Writes what a line begins with: the letter and the reply.
+fn put_heading(out: &mut [u8], at: usize, letter: u8, reply: u32) -> usize
+    requires { ⌜ at + length (heading letter reply) ≤ length (now out) ⌝ }
+    ensures { λ r. ⌜ Wrote at (heading letter reply) (now (out .entry)) (now (out .exit)) r ⌝ }
+{
+    let mut next = put_byte(out, at, letter);
+    next = put_byte(out, next, b' ');
+    next = put_number(out, next, reply as u64);
+    put_byte(out, next, b' ')
+}
+
+// Writes the line of an insert, a search or a split.
+pub fn put_answer(out: &mut [u8], at: usize, letter: u8, reply: u32, route: &[u16]) -> usize
+    requires { ⌜ at + lineRoom (length (now route)) ≤ length (now out) ⌝ }
+    ensures { λ r. ⌜ Wrote at (answerLine letter reply (now (route .entry))) (now (out .entry)) (now (out .exit)) r ⌝ }
+{
+    let mut next = put_heading(out, at, letter, reply);
+    next = put_joined(out, next, b'>', route);
+    put_byte(out, next, b'\n')
+}
+
+// Writes what a scan's line has after the reply: the visits and the match count, or `-` if it was refused.
+fn put_scanned(out: &mut [u8], at: usize, reply: u32, visits: &[u16], matches: u32) -> usize
+    requires { ⌜ at + length (scanned reply (now visits) matches) ≤ length (now out) ⌝ }
+    ensures { λ r. ⌜ Wrote at (scanned reply (now (visits .entry)) matches) (now (out .entry)) (now (out .exit)) r ⌝ }
+{
+    if reply != 0 {
+        return put_byte(out, at, b'-');
+    }
+    let mut next = put_joined(out, at, b',', visits);
+    next = put_byte(out, next, b' ');
+    put_number(out, next, matches as u64)
+}
+
+// Writes the line of a scan.
+pub fn put_scan(out: &mut [u8], at: usize, reply: u32, visits: &[u16], matches: u32) -> usize
+    requires { ⌜ at + lineRoom (length (now visits)) ≤ length (now out) ⌝ }
+    ensures { λ r. ⌜ Wrote at (scanLine reply (now (visits .entry)) matches) (now (out .entry)) (now (out .exit)) r ⌝ }
+{
+    let mut next = put_heading(out, at, b'A', reply);
+    next = put_scanned(out, next, reply, visits, matches);
+    put_byte(out, next, b'\n')
+}
