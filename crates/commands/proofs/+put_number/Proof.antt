@@ -9,7 +9,7 @@ use Rattle.commands.specs.Print.Edit.{wrote-both}
 use Rattle.commands.proofs.put_number.Reads as put-number
 use Rattle.commands.proofs.put_number.Kinds as put-number-kinds
 use Rattle.commands.proofs.+put_number.Lts-put_number as put-number-lts
-use Rattle.commands.proofs.put_byte.Reads as put-byte-reads
+use Rattle.commands.proofs.put_byte.Reads as put-byte
 use Rattle.commands.proofs.+put_number.{statement}
 use Rattle.commands.proofs.+put_number.Tie.{close}
 
@@ -25,7 +25,7 @@ module _ (t : ℕ) where
   asked = and 1 put-number-kinds.ps (falls 1 put-number-kinds.ps _<_ μ-put-number t) put-number.Pre
 
   abbrev told : put-number-lts.Claims
-  told = (put-byte-reads.Asked, put-byte-reads.Learnt, asked, put-number.Post)
+  told = (put-byte.Asked, put-byte.Learnt, asked, put-number.Post)
 
   add-put-byte : put-number-lts.Need-add-put-byte told given put-number.Post
   add-put-byte c = omega arith
