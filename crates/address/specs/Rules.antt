@@ -11,7 +11,7 @@ pub mod Scan
 pub mod Steps
 pub mod Table
 use Prim.Native.Nat.{ℕ, zero, suc, _+_, _*_, _-_, _^_, _%_, _≤_, _<_, max}
-use mathlib.Core.Bool.{Bool, true, false, cond, _&&_, _||_}
+use mathlib.Core.Bool.{Bool, true, cond, _&&_, _||_}
 use mathlib.Core.List.{List, [], _∷_, _++_, map, foldr}
 use lib.Dec.{leb, ltb, eqb}
 use lib.ListN.{length}

@@ -7,13 +7,13 @@ pub mod Sound
 pub mod Write
 use Prim.Native.Nat.{ℕ, zero, suc, _+_, _*_, _-_, _^_, _<_}
 use mathlib.Core.Path.{_≡_}
-use mathlib.Core.Bool.{Bool, true, false, cond, not, _&&_}
+use mathlib.Core.Bool.{Bool, true, cond, not, _&&_}
 use mathlib.Core.List.{List, [], _∷_, _++_, map}
 use lib.Dec.{leb, eqb}
 use lib.ListN.{length, drop, replicate}
 use Rattle.address.specs.declared.Image.{Image}
 use Rattle.address.specs.Rules.{address, level}
-use Rattle.layout.specs.Bytes.{Bytes, byteAt, leAt, leBytes, marked, allBelow, allZero, firstFrom, edit, part}
+use Rattle.layout.specs.Bytes.{Bytes, byteAt, leAt, leBytes, marked, allBelow, allZero, firstFrom, part}
 
 -- A ride: a key and its payload of 14 bytes.
 pub record Ride : Type 0 where

@@ -2,8 +2,8 @@
 use borrow.Author.Needs.{needs}
 use Rattle.address.proofs.adjusted.Statement.{statement}
 use Rattle.address.proofs.adjusted.Tie as tie
-use Prim.Native.Nat.{ℕ, _-_}
-use mathlib.Core.Path.{_≡_, _∙_, ap, sym}
+use Prim.Native.Nat.{_-_}
+use mathlib.Core.Path.{_∙_, ap, sym}
 use native.Mathlib.Numerals.{add-one}
 use native.Mathlib.Omega.{arith}
 use Rattle.address.specs.Rules.{wrapped, adjusted}

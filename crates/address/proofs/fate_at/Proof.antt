@@ -3,7 +3,7 @@ use borrow.Author.Needs.{needs}
 use Rattle.address.proofs.fate_at.Statement.{statement}
 use Rattle.address.proofs.fate_at.Tie as tie
 use mathlib.Core.Bool.{Bool}
-use mathlib.Core.Path.{_≡_, _∙_, ap, sym}
+use mathlib.Core.Path.{_∙_, ap, sym}
 use borrow.Author.Tests.{not-true, not-false}
 use Rattle.address.specs.Rules.{fate}
 use Rattle.address.specs.Rules.Cases.{fate-unsound, fate-keep, fate-send}

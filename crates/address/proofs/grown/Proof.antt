@@ -2,7 +2,7 @@
 use borrow.Author.Needs.{needs}
 use Rattle.address.proofs.grown.Statement.{statement}
 use Rattle.address.proofs.grown.Tie as tie
-use mathlib.Core.Path.{_≡_, _∙_, ap, sym}
+use mathlib.Core.Path.{_∙_, ap, sym}
 use native.Mathlib.Numerals.{add-one}
 use Rattle.address.specs.Rules.{wrapped}
 use Rattle.address.specs.Rules.Cases.{grown-is}

@@ -2,7 +2,7 @@
 use borrow.Author.Needs.{needs}
 use Rattle.address.proofs.level_of.Statement.{statement}
 use Rattle.address.proofs.level_of.Tie as tie
-use mathlib.Core.Path.{_≡_, _∙_, ap, sym}
+use mathlib.Core.Path.{_∙_, sym}
 use native.Mathlib.Numerals.{add-one}
 use native.Mathlib.Omega.{arith}
 use Rattle.address.specs.Rules.Cases.{level-split, level-born, level-rest}

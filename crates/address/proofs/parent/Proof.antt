@@ -2,7 +2,7 @@
 use borrow.Author.Needs.{needs}
 use Rattle.address.proofs.parent.Statement.{statement}
 use Rattle.address.proofs.parent.Tie as tie
-use mathlib.Core.Path.{_≡_, _∙_, ap, sym}
+use mathlib.Core.Path.{sym}
 use native.Mathlib.Omega.{arith}
 use Rattle.address.specs.Rules.Parent.{parent-none, by-zeros}
 

@@ -3,7 +3,7 @@ use borrow.Author.Needs.{needs}
 use Rattle.address.proofs.wrapped.Statement.{statement}
 use Rattle.address.proofs.wrapped.Tie as tie
 use Prim.Native.Nat.{ℕ}
-use mathlib.Core.Path.{_≡_, _∙_, ap, sym}
+use mathlib.Core.Path.{_∙_, ap, sym}
 use native.Mathlib.Numerals.{add-one}
 use native.Mathlib.Omega.{arith}
 use Rattle.address.specs.Rules.{«at»}

@@ -1,13 +1,13 @@
 -- The address of a key and the level of a bucket together: an existing bucket a is the address of C exactly if h_{level a}(C) = a.
 -- By cases: a below the pointer, a born of a split, or a not yet split; in each h_{i+1}(C) is h_i(C) or one span more.
 use Prim.Native.Nat.{ℕ, suc, _+_, _≤_, _<_}
-use mathlib.Core.Path.{_≡_, sym, ap, _∙_}
+use mathlib.Core.Path.{_≡_, ap}
 use mathlib.Core.Logic.{_↔_, _⊎_, inl, inr, ⊎-elim}
 use native.Mathlib.Omega.{arith}
 use Rattle.address.specs.Compare.{below}
 use Rattle.address.specs.declared.Image.{Image}
 use Rattle.address.specs.Rules.{Formed, span, buckets, hash, address, level}
-use Rattle.address.specs.Rules.Hash.{span-suc, span-pos, hash-lt, hash-small, hash-suc}
+use Rattle.address.specs.Rules.Hash.{span-suc, hash-lt, hash-small, hash-suc}
 use Rattle.address.specs.Rules.Cases.{buckets-is, address-low, address-high, level-split, level-born, level-rest}
 
 module _ (N : ℕ) (positive : 0 < N) (s : Image) (formed : Formed N s) where

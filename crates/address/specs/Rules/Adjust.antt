@@ -10,7 +10,7 @@ use Rattle.address.specs.Rules.{Formed, NotAhead, span, buckets, hash, a
 use Rattle.address.specs.Rules.Hash.{span-suc, span-mono}
 use Rattle.address.specs.Rules.Cases.{buckets-is, level-split, level-low, keeps-yes, keeps-no, adjusted-kept, adjusted-behind}
 use Rattle.address.specs.Rules.Grow.{wrapped-formed, wrapped-buckets}
-use Rattle.address.specs.Rules.Route.{first-exists, first-own, first-level, left-level, left-low, place}
+use Rattle.address.specs.Rules.Route.{first-own, first-level, left-level, left-low, place}
 
 pub imageAfter-is : (N : ℕ) (file image : Image) (C : ℕ) → imageAfter N file image C
     ≡ adjusted N image (address N image C) (level N file (address N image C)) (keeps N (address N image C) (level N file (address N image C)) C)

@@ -1,7 +1,7 @@
 -- What a split does to (i, n): one bucket more; only bucket n and the new bucket have another level; only keys of bucket n move, and only to the new bucket.
 -- By the two cases of growth: the pointer goes up by one, or has come to the span and the level goes up.
 use Prim.Native.Nat.{ℕ, suc, _+_, _≤_, _<_}
-use mathlib.Core.Path.{_≡_, sym, ap, subst, _∙_}
+use mathlib.Core.Path.{_≡_, sym, subst, _∙_}
 use mathlib.Core.Logic.{_⊎_, inl, inr, ⊎-elim}
 use native.Mathlib.Omega.{arith}
 use Rattle.address.specs.Compare.{below}

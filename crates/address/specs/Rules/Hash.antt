@@ -1,7 +1,7 @@
 -- Facts of h_k and of 2^k, once over k and N. A level more doubles the span and leaves h_k or adds one span to it; a lower h_j is found again in a higher h_k.
 use Prim.Native.Nat.{ℕ, zero, suc, _+_, _*_, _-_, _^_, _%_, _/_, _≤_, _<_}
-use mathlib.Core.Path.{_≡_, refl, sym, ap, subst, _∙_}
-use mathlib.Core.Logic.{_⊎_, inl, inr, ⊎-elim}
+use mathlib.Core.Path.{_≡_, refl, sym, ap, _∙_}
+use mathlib.Core.Logic.{_⊎_, inl, inr}
 use native.Mathlib.Nat.{mod-lt, mod-eq-of-lt, mod-le, pow-succ', mul-le-mul-left, mul-pos, mul-assoc, mod-mod-of-dvd, dvd-mul-right}
 use native.Mathlib.Omega.{arith}
 use lib.Arith.{mod-mul}

@@ -2,14 +2,14 @@
 -- The client's bucket a is h_m(C) for some m up to its level j. Where a does not keep the key, y = h_{j-1}(C) is a or more: if it is a, the next bucket
 -- is a + 2^(j-1), which keeps the key; if it is more, the next bucket is y, where the key is kept or is in the first case.
 use Prim.Native.Nat.{ℕ, zero, suc, _+_, _-_, _≤_, _<_}
-use mathlib.Core.Path.{_≡_, refl, sym, ap, subst, _∙_}
+use mathlib.Core.Path.{_≡_, refl, sym, ap, _∙_}
 use mathlib.Core.List.{List, [], _∷_}
 use mathlib.Core.Logic.{_↔_, _⊎_, inl, inr, ⊎-elim}
 use native.Mathlib.Omega.{arith}
 use lib.ListN.{length}
 use Rattle.address.specs.Compare.{below, same}
 use Rattle.address.specs.declared.Image.{Image}
-use Rattle.address.specs.Rules.{Formed, NotAhead, span, buckets, hash, address, level, onward, fate, forwards, following, routeFrom, route}
+use Rattle.address.specs.Rules.{Formed, NotAhead, span, buckets, hash, address, level, onward, forwards, following, routeFrom, route}
 use Rattle.address.specs.Rules.Hash.{span-suc, span-pos, span-mono, hash-le, hash-lt, hash-hash, hash-suc}
 use Rattle.address.specs.Rules.Cases.{buckets-is, level-split, level-born, level-rest, level-low, level-high, onward-near, onward-past, onward-level, fate-keep, fate-send}
 use Rattle.address.specs.Rules.Address.{address-exists, address-own}

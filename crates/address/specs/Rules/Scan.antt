@@ -1,11 +1,11 @@
 -- A scan by a client that is not ahead visits each existing bucket exactly once and nothing else, and its last round is at most the highest bucket level less i'.
 -- A waiting message (a, m) weighs 1 at each bucket x with h_m(x) = a. Handling it takes off just the weight at a, since h_{k}(x) = a splits into
 -- h_{k+1}(x) = a and h_{k+1}(x) = a + 2^k, level by level. The opening weighs 1 at every bucket, and the whole weight is the room that is needed.
-use Prim.Native.Nat.{ℕ, zero, suc, _+_, _-_, _≤_, _<_, max}
+use Prim.Native.Nat.{ℕ, zero, suc, _+_, _-_, _≤_, _<_}
 use mathlib.Core.Path.{_≡_, refl, sym, ap, _∙_}
-use mathlib.Core.Bool.{Bool, true, false, cond}
-use mathlib.Core.List.{List, [], _∷_, _++_, map, foldr}
-use mathlib.Core.Logic.{_↔_, _⊎_, inl, inr, ⊎-elim}
+use mathlib.Core.Bool.{Bool, cond}
+use mathlib.Core.List.{List, [], _∷_, _++_, map}
+use mathlib.Core.Logic.{_↔_, _⊎_, ⊎-elim}
 use native.Mathlib.Omega.{arith}
 use borrow.Author.Tests.{eq-eqb, ne-eqb}
 use lib.Dec.{eqb}
@@ -14,7 +14,7 @@ use Rattle.address.specs.Compare.{below, same}
 use Rattle.address.specs.declared.Image.{Image}
 use Rattle.address.specs.Rules.{Formed, NotAhead, span, buckets, hash, address, level, child, Message, message, numbers, opening, sends, answers, handled, scan, visits, greatest, lastRound, highest}
 use Rattle.address.specs.Rules.Hash.{span-suc, span-mono, hash-lt, hash-suc}
-use Rattle.address.specs.Rules.Cases.{buckets-is, level-split, level-born, level-rest, level-low, level-high}
+use Rattle.address.specs.Rules.Cases.{buckets-is, level-born, level-rest, level-low, level-high}
 use Rattle.address.specs.Rules.Address.{address-exists, address-own, address-number, level-spans}
 use Rattle.address.specs.Rules.Route.{level-behind}
 

@@ -3,9 +3,7 @@ use Prim.Native.Nat.{ℕ}
 use mathlib.Core.Path.{_≡_, refl}
 use mathlib.Core.List.{List, [], _∷_}
 use native.Mathlib.Nat.{mod-one}
-use lib.Dec.{leb, ltb, eqb}
 use Rattle.address.specs.declared.Image.{Image}
-use Rattle.address.specs.declared.Fate.the-variants.{Keep, SendOn, Unsound}
 use Rattle.address.specs.Rules.{«at», span, buckets, hash, address, level, keeps, onward, fate, wrapped, adjusted, imageAfter, child, newborn, grown, following, routeFrom, route, numbers, opening, sends, answers, handled, scan, visits, greatest, lastRound, topSpan, parent}
 
 -- A key sent in a file by a client: its route, and the client's image afterwards.

@@ -1,7 +1,7 @@
 use borrow.Author.Needs.{needs}
 -- `bucket::all_differ`: distinct so far and distinct in what is left is distinct in all.
-use Prim.Native.Nat.{ℕ, _-_, _≤_}
-use mathlib.Core.Path.{_≡_, refl, sym, ap, _∙_}
+use Prim.Native.Nat.{_-_, _≤_}
+use mathlib.Core.Path.{_≡_}
 use mathlib.Core.Bool.{_&&_}
 use native.Mathlib.Omega.{arith}
 use Rattle.layout.specs.Bytes.{part}

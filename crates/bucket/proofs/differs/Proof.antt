@@ -1,7 +1,7 @@
 use borrow.Author.Needs.{needs}
 -- `bucket::differs`: fresh so far and different from what is left is different from all.
 use Prim.Native.Nat.{ℕ, _-_, _≤_}
-use mathlib.Core.Path.{_≡_, refl, sym, ap, _∙_}
+use mathlib.Core.Path.{_≡_}
 use mathlib.Core.Bool.{_&&_, not}
 use native.Mathlib.Omega.{arith}
 use lib.Dec.{eqb}

@@ -1,7 +1,7 @@
 use borrow.Author.Needs.{needs}
 -- `bucket::find`: the first place from k on is the first of all, since none before k has the key.
 use Prim.Native.Nat.{ℕ, _-_, _≤_}
-use mathlib.Core.Path.{_≡_, refl, sym, ap, _∙_}
+use mathlib.Core.Path.{_≡_, sym, ap, _∙_}
 use native.Mathlib.Omega.{arith}
 use lib.Dec.{eqb}
 use lib.ListN.{getD}

@@ -1,7 +1,7 @@
 use borrow.Author.Needs.{needs}
 -- `bucket::gather`: marks and keys so far, and what is left to belong; each turn adds one slot.
 use Prim.Native.Nat.{_-_}
-use mathlib.Core.Path.{_≡_, refl, sym, ap, _∙_}
+use mathlib.Core.Path.{_≡_, refl}
 use mathlib.Core.List.{_∷_, []}
 use native.Mathlib.Omega.{arith}
 use Rattle.address.specs.Rules.{keeps}

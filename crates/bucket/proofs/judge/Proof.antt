@@ -1,7 +1,7 @@
 -- `bucket::judge` tests head, slots, unused bytes and keys in turn; the first that fails makes the region unsound.
 use Prim.Native.Nat.{_≤_}
-use mathlib.Core.Path.{_≡_, refl}
-use mathlib.Core.Bool.{true, false, false≢true}
+use mathlib.Core.Path.{refl}
+use mathlib.Core.Bool.{false≢true}
 use native.Mathlib.Omega.{arith}
 use Rattle.address.specs.Rules.{keeps}
 use Rattle.bucket.specs.Region.Judge.{judged-head, judged-few, judged-slots, judged-rest, judged-all}

@@ -1,10 +1,9 @@
 -- `bucket::place` writes mark, key and payload one behind the other, which is the slot's bytes, and then the count.
-use Prim.Native.Nat.{ℕ, _+_}
+use Prim.Native.Nat.{_+_}
 use mathlib.Core.Path.{refl, ap, _∙_}
-use mathlib.Core.List.{List}
 use native.Mathlib.Omega.{arith}
 use Rattle.layout.specs.Bytes.{leBytes, edit}
-use Rattle.bucket.specs.Region.{slotMark, slotAt}
+use Rattle.bucket.specs.Region.{slotAt}
 use Rattle.bucket.specs.Region.Write.{put-slot}
 use borrow.Author.Needs.{needs}
 use Rattle.bucket.proofs.place.Statement.{statement}

@@ -1,9 +1,9 @@
 -- `bucket::refill` empties the target, sifts the source's rides into it and writes their count.
 use Prim.Native.Nat.{ℕ}
-use mathlib.Core.Path.{_≡_, sym, ap, _∙_}
+use mathlib.Core.Path.{ap, _∙_}
 use native.Mathlib.Omega.{arith}
 use Rattle.address.specs.Rules.{keeps}
-use Rattle.layout.specs.Bytes.{allBelow, leBytes, edit}
+use Rattle.layout.specs.Bytes.{allBelow}
 use Rattle.bucket.specs.Region.{slotUsed}
 use Rattle.bucket.specs.Region.Write.{empty-laid, refilled}
 use borrow.Author.Needs.{needs}

@@ -1,19 +1,18 @@
 -- The bytes of a list of rides: how long they are, one ride more, another count, and that what is laid out is read back.
-use Prim.Native.Nat.{ℕ, zero, suc, _+_, _*_, _-_, _/_, _%_, _^_, _≤_, _<_}
+use Prim.Native.Nat.{ℕ, zero, suc, _+_, _*_, _-_, _/_, _%_, _≤_, _<_}
 use mathlib.Core.Path.{_≡_, refl, sym, ap, ap₂, _∙_}
-use mathlib.Core.Bool.{Bool, true, false, _&&_}
+use mathlib.Core.Bool.{true}
 use mathlib.Core.List.{List, [], _∷_, _++_, append-assoc, append-nil}
 use native.Mathlib.Nat.{add-zero}
 use native.Mathlib.Omega.{arith}
 use borrow.Author.Tests.{eq-eqb}
-use lib.Dec.{eqb}
-use lib.ListN.{length, getD, take, drop, replicate, length-append, length-replicate, replicate-append-replicate}
+use lib.ListN.{length, getD, drop, replicate, length-append, length-replicate, replicate-append-replicate}
 use lib.Seq.{drop-at, drop-drop, getD-drop}
-use Rattle.layout.specs.Bytes.{Bytes, leAt, leBytes, marked, edit, part}
+use Rattle.layout.specs.Bytes.{leAt, leBytes, edit, part}
 use Rattle.layout.specs.Bytes.Tests.{and-both}
 use Rattle.layout.specs.Bytes.Edit.{edit-seam, part-seam, part-drop}
 use Rattle.layout.specs.Bytes.Numbers.{length-leBytes, leBytes-two, le-back, le-seam, le-drop}
-use Rattle.bucket.specs.Region.{Ride, Whole, bucketMark, slotMark, slotAt, countOf, levelOf, headFormed, slotUsed, keyAt, rideAt, ridesFrom, ridesOf, headBytes, slotBytes, slotsBytes, layOut, encode}
+use Rattle.bucket.specs.Region.{Ride, Whole, slotMark, slotAt, countOf, levelOf, headFormed, slotUsed, keyAt, rideAt, ridesFrom, headBytes, slotBytes, slotsBytes, layOut, encode}
 use Rattle.bucket.specs.Region.Rides.{AllWhole, whole-append}
 
 pub length-head : (j count : ℕ) → length (headBytes j count) ≡ 8

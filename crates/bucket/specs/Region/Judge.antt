@@ -12,10 +12,10 @@ use lib.ListN.{length, getD, take, drop, set, length-set, length-drop}
 use lib.Seq.{take-suc-set, take-all}
 use Rattle.address.specs.Rules.{hash, keeps}
 use Rattle.address.specs.Rules.Cases.{keeps-is}
-use Rattle.layout.specs.Bytes.{byteAt, leAt, marked, allBelow, allZero, firstFrom, part}
-use Rattle.layout.specs.Bytes.Tests.{all-none, all-more, first-same, and-left, and-right}
+use Rattle.layout.specs.Bytes.{byteAt, leAt, marked, allBelow, allZero, part}
+use Rattle.layout.specs.Bytes.Tests.{all-none, all-more, and-left, and-right}
 use Rattle.layout.specs.Bytes.Edit.{part-cons, part-end, part-front}
-use Rattle.bucket.specs.Region.{Ride, bucketMark, slotMark, slotAt, countOf, levelOf, headFormed, slotUsed, keyAt, rideAt, ridesFrom, ridesOf, keysOf, every, distinct, headSound, soundWith, slotOf}
+use Rattle.bucket.specs.Region.{Ride, bucketMark, slotAt, countOf, levelOf, headFormed, slotUsed, keyAt, rideAt, ridesFrom, ridesOf, keysOf, every, distinct, headSound, soundWith}
 use Rattle.bucket.specs.Region.Rides.{keys-append}
 
 pub head-judged : (S j : ℕ) (region : List ℕ) (mark : Bool) (l n : ℕ) → mark ≡ marked region 0 bucketMark → l ≡ byteAt region 2 → n ≡ leAt 2 region 4

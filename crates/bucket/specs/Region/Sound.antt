@@ -1,8 +1,8 @@
 -- A sound region is the encoding of its level and its rides, and nothing else is; an encoding is sound exactly if its keys belong and are distinct.
 -- The one way each part of the bytes is read off, the other way it is written again.
-use Prim.Native.Nat.{ℕ, zero, suc, _+_, _*_, _-_, _^_, _≤_, _<_}
+use Prim.Native.Nat.{ℕ, zero, suc, _+_, _*_, _-_, _≤_, _<_}
 use mathlib.Core.Path.{_≡_, refl, sym, ap, ap₂, _∙_}
-use mathlib.Core.Bool.{Bool, true, false, not, _&&_}
+use mathlib.Core.Bool.{Bool, true, _&&_}
 use mathlib.Core.List.{List, [], _∷_, _++_, append-assoc}
 use mathlib.Core.Logic.{_↔_, by-cases}
 use native.Mathlib.Decide.{ℕ-discrete}
@@ -15,10 +15,10 @@ use Rattle.address.specs.declared.Image.{Image}
 use Rattle.address.specs.Rules.{Formed, buckets, hash, address, level, keeps}
 use Rattle.address.specs.Rules.Cases.{keeps-yes, keeps-no}
 use Rattle.address.specs.Rules.Address.{address-own}
-use Rattle.layout.specs.Bytes.{Bytes, byteAt, leAt, leBytes, marked, allBelow, allZero, part}
-use Rattle.layout.specs.Bytes.Tests.{and-left, and-right, and-both, all-at, all-of, zero-replicate, replicate-zero}
+use Rattle.layout.specs.Bytes.{Bytes, marked, allBelow, allZero, part}
+use Rattle.layout.specs.Bytes.Tests.{and-left, and-right, all-at, all-of, zero-replicate, replicate-zero}
 use Rattle.layout.specs.Bytes.Edit.{part-split, part-two, part-front, drop-split, length-part, part-bytes}
-use Rattle.layout.specs.Bytes.Numbers.{le-again, le-lt, leBytes-two}
+use Rattle.layout.specs.Bytes.Numbers.{le-again, le-lt}
 use Rattle.bucket.specs.Region.{Ride, Whole, bucketMark, slotMark, slotAt, countOf, levelOf, headFormed, slotUsed, keyAt, rideAt, ridesFrom, ridesOf, keysOf, every, distinct, headSound, soundWith, bucketSound, headBytes, slotBytes, slotsBytes, layOut, encode}
 use Rattle.bucket.specs.Region.Rides.{AllWhole, every-same}
 use Rattle.bucket.specs.Region.Encode.{rides-back, used-back, slots-here, rest-zero, count-back, level-back, head-back}

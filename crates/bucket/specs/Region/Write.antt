@@ -1,19 +1,19 @@
 -- What the writing functions leave, over plain values: a slot written in three pieces, an empty region, and one slot more of a division.
-use Prim.Native.Nat.{ℕ, zero, suc, _+_, _*_, _-_, _≤_, _<_}
+use Prim.Native.Nat.{ℕ, _+_, _*_, _-_, _≤_, _<_}
 use mathlib.Core.Path.{_≡_, refl, sym, ap, ap₂, _∙_}
-use mathlib.Core.Bool.{Bool, true, false, cond}
+use mathlib.Core.Bool.{Bool, true, cond}
 use mathlib.Core.List.{List, [], _∷_, _++_, append-nil}
 use native.Mathlib.Nat.{zero-add}
 use native.Mathlib.Numerals.{add-one}
 use native.Mathlib.Omega.{arith}
-use lib.ListN.{length, getD, take, drop, set, replicate, length-append, replicate-append-replicate}
+use lib.ListN.{length, take, drop, set, replicate, length-append, replicate-append-replicate}
 use Rattle.address.specs.Rules.{hash, keeps}
 use Rattle.address.specs.Rules.Cases.{keeps-yes, keeps-no}
 use Rattle.layout.specs.Bytes.{Bytes, leAt, leBytes, allBelow, edit, part}
 use Rattle.layout.specs.Bytes.Tests.{all-at}
 use Rattle.layout.specs.Bytes.Edit.{edit-next, edit-seam, length-edit, length-part, part-is}
 use Rattle.layout.specs.Bytes.Numbers.{length-leBytes, leBytes-two}
-use Rattle.bucket.specs.Region.{Ride, Whole, bucketMark, slotMark, slotAt, countOf, slotUsed, keyAt, rideAt, ridesFrom, ridesOf, headBytes, slotBytes, slotsBytes, layOut, encode, kept}
+use Rattle.bucket.specs.Region.{bucketMark, slotMark, slotAt, countOf, slotUsed, keyAt, rideAt, ridesFrom, ridesOf, headBytes, slotBytes, slotsBytes, layOut, encode, kept}
 use Rattle.bucket.specs.Region.Rides.{kept-append, kept-whole}
 use Rattle.bucket.specs.Region.Encode.{length-layOut, layOut-more, layOut-count}
 use Rattle.bucket.specs.Region.Sound.{ride-whole, rides-whole, slot-again}

@@ -1,5 +1,4 @@
 -- `client::client_of`: the image is read, and judged with the fixed bytes.
-use mathlib.Core.Path.{_≡_, refl, sym, ap, _∙_}
 use Rattle.client.specs.Table.Laws.{image-read, record-both}
 use borrow.Author.Needs.{needs}
 use Rattle.client.proofs.client_of.Statement.{statement}

@@ -1,8 +1,7 @@
 -- `client::image_formed` tests the level first, so that its span is small, and then the pointer.
-use mathlib.Core.Path.{_≡_, refl, sym, ap, _∙_}
+use mathlib.Core.Path.{sym, ap, _∙_}
 use lib.Dec.{ltb}
 use native.Mathlib.Omega.{arith}
-use Prim.Native.Nat.{ℕ}
 use Rattle.client.specs.Table.Laws.{image-high, image-low}
 use borrow.Author.Needs.{needs}
 use Rattle.client.proofs.image_formed.Statement.{statement}

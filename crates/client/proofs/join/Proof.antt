@@ -1,5 +1,5 @@
 -- `client::join` passes on a refusal, or writes (0, 0) over the record.
-use mathlib.Core.Path.{_≡_, refl, sym, ap, _∙_}
+use mathlib.Core.Path.{sym, _∙_}
 use native.Mathlib.Omega.{arith}
 use Rattle.client.specs.Table.Laws.{record-fits, join-refused, join-done}
 use borrow.Author.Needs.{needs}

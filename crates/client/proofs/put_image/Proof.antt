@@ -1,6 +1,6 @@
 -- `client::put_image` writes the mark, then the figures behind it: the image's bytes.
-use mathlib.Core.Path.{_≡_, refl, sym, ap, _∙_}
-use Prim.Native.Nat.{ℕ, _*_, _+_, _/_, _%_}
+use mathlib.Core.Path.{ap, _∙_}
+use Prim.Native.Nat.{_*_, _+_, _/_, _%_}
 use mathlib.Core.List.{[], _∷_}
 use Rattle.layout.specs.Bytes.{edit}
 use Rattle.client.specs.Table.Laws.{image-written}

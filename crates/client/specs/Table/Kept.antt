@@ -1,9 +1,9 @@
 -- What writing an image keeps: it is read back, every other record stays, so a sound table stays sound.
 -- A record is judged by its own eight bytes.
-use Prim.Native.Nat.{ℕ, suc, _+_, _*_, _/_, _%_, _≤_, _<_}
-use mathlib.Core.Path.{_≡_, refl, sym, ap, ap₂, _∙_}
-use mathlib.Core.Bool.{Bool, true, _&&_}
-use mathlib.Core.List.{List, [], _∷_, _++_}
+use Prim.Native.Nat.{ℕ, _+_, _*_, _/_, _%_, _≤_, _<_}
+use mathlib.Core.Path.{_≡_, sym, ap, ap₂, _∙_}
+use mathlib.Core.Bool.{true, _&&_}
+use mathlib.Core.List.{List, [], _∷_}
 use mathlib.Core.Logic.{by-cases}
 use native.Mathlib.Decide.{ℕ-discrete, decLt}
 use native.Mathlib.Nat.{add-zero}
@@ -15,11 +15,11 @@ use Rattle.address.specs.Limits.{firstBuckets, mostLevel}
 use Rattle.address.specs.declared.Image.{Image}
 use Rattle.address.specs.Rules.{«at», Formed, span}
 use Rattle.address.specs.Rules.Hash.{span-is, span-mono}
-use Rattle.layout.specs.Bytes.{byteAt, leAt, leBytes, marked, allBelow, edit}
+use Rattle.layout.specs.Bytes.{leAt, edit}
 use Rattle.layout.specs.Bytes.Tests.{and-left, and-right, and-both, all-at, all-of}
 use Rattle.layout.specs.Bytes.Edit.{length-edit, edit-before, edit-in, edit-after}
-use Rattle.layout.specs.Bytes.Numbers.{le-same, le-two, leBytes-two}
-use Rattle.client.specs.Table.{clientMark, lengthSound, imageOf, recordFormed, imageFormed, recordSound, tableSound, imageBytes, withImage}
+use Rattle.layout.specs.Bytes.Numbers.{le-two, leBytes-two}
+use Rattle.client.specs.Table.{lengthSound, imageOf, recordFormed, imageFormed, recordSound, tableSound, imageBytes, withImage}
 
 -- the eight bytes of an image
 bytes-is : (image : Image) → imageBytes image ≡ 76 ∷ 67 ∷ image .level ∷ 0 ∷ image .pointer % 256 ∷ image .pointer / 256 % 256 ∷ 0 ∷ 0 ∷ []

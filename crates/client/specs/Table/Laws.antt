@@ -1,22 +1,22 @@
 -- The table's refusals by their cases, and what each function of the crate shows, over plain values.
 use Prim.Native.Nat.{ℕ, _+_, _*_, _/_, _%_, _≤_, _<_}
 use mathlib.Core.Path.{_≡_, refl, sym, ap, ap₂, _∙_}
-use mathlib.Core.Bool.{Bool, true, false, cond, not, _&&_, true≢false}
+use mathlib.Core.Bool.{Bool, true, false, cond, not, _&&_}
 use mathlib.Core.List.{List, [], _∷_, _++_}
 use mathlib.Core.Logic.{by-cases}
 use native.Mathlib.Decide.{decLt}
 use native.Mathlib.Omega.{arith}
-use borrow.Author.Tests.{lt-ltb, le-ltb, le-leb, lt-leb, ltb-true, leb-true, eqb-true, eq-eqb, ne-eqb}
+use borrow.Author.Tests.{lt-ltb, le-ltb, le-leb, lt-leb, ltb-true, leb-true, eq-eqb, ne-eqb}
 use lib.Dec.{leb, ltb, eqb}
 use lib.ListN.{length}
 use Rattle.address.specs.Limits.{firstBuckets, mostLevel}
 use Rattle.address.specs.declared.Image.{Image}
 use Rattle.address.specs.Rules.{«at», Formed, span}
-use Rattle.layout.specs.Bytes.{Bytes, byteAt, leAt, leBytes, marked, allBelow, edit, part}
-use Rattle.layout.specs.Bytes.Tests.{and-left, and-right, and-both}
+use Rattle.layout.specs.Bytes.{byteAt, leAt, leBytes, marked, edit}
+use Rattle.layout.specs.Bytes.Tests.{and-left, and-right}
 use Rattle.layout.specs.Bytes.Edit.{edit-next}
 use Rattle.layout.specs.Bytes.Numbers.{leBytes-two}
-use Rattle.layout.specs.Replies.{refuse, reply, reply-is, reply-none, reply-here, reply-past}
+use Rattle.layout.specs.Replies.{reply, reply-is, reply-none, reply-here, reply-past}
 use Rattle.client.specs.Table.{clientMark, lengthSound, exists, imageOf, recordFormed, imageFormed, recordSound, tableRefusals, imageBytes, withImage, Joined, join}
 
 module _ (table : List ℕ) (client : ℕ) where

@@ -1,9 +1,8 @@
 -- `file::create` refuses figures that do not fit, or clears the file and writes its header and first bucket.
-use mathlib.Core.Path.{_≡_, refl, sym, ap, _∙_}
-use Prim.Native.Nat.{_≤_}
+use mathlib.Core.Path.{sym, _∙_}
 use native.Mathlib.Omega.{arith}
 use borrow.Author.Tests.{not-true, not-false}
-use Rattle.file.specs.File.Judge.{Figures, figures}
+use Rattle.file.specs.File.Judge.{figures}
 use Rattle.file.specs.File.Create.{create-room, created-bytes, create-refused, create-done}
 use borrow.Author.Needs.{needs}
 use Rattle.file.proofs.create.Statement.{statement}

@@ -1,10 +1,8 @@
 -- `file::divide` copies the old region, from which both regions are then refilled.
-use mathlib.Core.Path.{_≡_, refl, sym, ap, _∙_}
-use Prim.Native.Nat.{ℕ, _≤_}
+use mathlib.Core.Path.{sym, ap, _∙_}
 use native.Mathlib.Omega.{arith}
-use lib.ListN.{take, length}
 use lib.Seq.{length-take-le}
-use Rattle.file.specs.File.{mostOf, bucketsOf, regionOf, bucketSoundIn}
+use Rattle.file.specs.File.{regionOf, bucketSoundIn}
 use Rattle.file.specs.File.Split.{number, old-exists, copied}
 use Rattle.file.specs.File.Region.{known-cut, known-fits, known-long}
 use borrow.Author.Needs.{needs}

@@ -1,8 +1,7 @@
 -- `file::figures_fit` tests the ranges first, so that the length they ask for does not wrap.
-use mathlib.Core.Path.{_≡_, refl, sym, ap, _∙_}
+use mathlib.Core.Path.{sym}
 use native.Mathlib.Omega.{arith}
 use borrow.Author.Tests.{not-true, not-false}
-use Prim.Native.Nat.{_≤_}
 use Rattle.file.specs.File.Judge.{ranges, figures-out, figures-in}
 use Rattle.file.specs.File.Region.{place-room}
 use Rattle.file.proofs.figures_fit.Statement.{statement}

@@ -1,5 +1,5 @@
 -- `file::header_of` tests length, fixed bytes, figures and state in turn; the first that fails leaves no header.
-use mathlib.Core.Path.{_≡_, refl, sym, ap, _∙_}
+use mathlib.Core.Path.{sym, ap, _∙_}
 use native.Mathlib.Omega.{arith}
 use borrow.Author.Tests.{not-true, not-false}
 use Rattle.layout.specs.Bytes.Edit.{part-is}

@@ -5,7 +5,7 @@ use native.Mathlib.Omega.{arith}
 use lib.ListN.{length, take, drop, length-drop}
 use lib.Seq.{length-take-le}
 use Rattle.bucket.specs.Region.{Ride, Whole}
-use Rattle.file.specs.File.{slotsOf, startOf}
+use Rattle.file.specs.File.{startOf}
 use Rattle.file.specs.File.Region.{known-fits, known-cut}
 use Rattle.file.specs.File.Write.{with-lent, ride-placed}
 use borrow.Author.Needs.{needs}

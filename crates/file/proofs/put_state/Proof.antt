@@ -1,5 +1,5 @@
 -- `file::put_state` writes the level and then the pointer.
-use mathlib.Core.Path.{_≡_, refl, sym, ap, _∙_}
+use mathlib.Core.Path.{ap, _∙_}
 use Rattle.layout.specs.Bytes.{edit, leBytes}
 use Rattle.file.specs.File.Write.{state-written}
 use borrow.Author.Needs.{needs}

@@ -1,9 +1,7 @@
 -- `file::region_sound` judges a bucket's region, or tests one past the last bucket for zeros.
-use mathlib.Core.Path.{_≡_, refl, sym, ap, _∙_}
-use Prim.Native.Nat.{ℕ, _<_}
+use mathlib.Core.Path.{sym, ap, _∙_}
 use native.Mathlib.Omega.{arith}
 use Rattle.layout.specs.Bytes.{allZero}
-use Rattle.file.specs.File.{bucketsOf}
 use Rattle.file.specs.File.Region.{buckets-known, known-cut, known-fits, region-bucket, region-past}
 use borrow.Author.Needs.{needs}
 use Rattle.file.proofs.region_sound.Statement.{statement}

@@ -1,11 +1,9 @@
 -- `file::split` judges header, room, bucket n and the new region in turn, and then divides.
-use mathlib.Core.Path.{_≡_, refl, sym, ap, _∙_}
-use Prim.Native.Nat.{ℕ, _<_}
+use mathlib.Core.Path.{refl, sym, ap, _∙_}
 use native.Mathlib.Omega.{arith}
 use borrow.Author.Tests.{not-true, not-false}
 use Rattle.layout.specs.Bytes.{allZero}
 use Rattle.address.specs.Rules.{newborn}
-use Rattle.file.specs.File.{mostOf, bucketsOf}
 use Rattle.file.specs.File.Split.{number, born, old-exists, new-next, split-refused, split-header, split-whole, split-unsound, split-dirty, split-done}
 use Rattle.file.specs.File.Region.{buckets-known, known-cut, known-fits}
 use Rattle.file.specs.File.Judge.{known, unknown}

@@ -1,6 +1,6 @@
 -- `file::spread` refills both regions from the copy and writes the grown state: the divided file.
-use mathlib.Core.Path.{_≡_, refl, sym, ap, _∙_}
-use Prim.Native.Nat.{ℕ, _+_, _≤_}
+use mathlib.Core.Path.{refl, ap, _∙_}
+use Prim.Native.Nat.{ℕ, _+_}
 use native.Mathlib.Omega.{arith}
 use Rattle.address.specs.declared.Image.{Image}
 use Rattle.file.specs.File.{withState}

@@ -1,5 +1,5 @@
 -- `file::state_fits` tests the level first, so that its span is small, and then the pointer and the buckets.
-use mathlib.Core.Path.{_≡_, refl, sym, ap, _∙_}
+use mathlib.Core.Path.{sym}
 use native.Mathlib.Omega.{arith}
 use Rattle.file.specs.File.Judge.{state-high, state-is}
 use borrow.Author.Needs.{needs}

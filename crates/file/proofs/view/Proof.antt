@@ -1,9 +1,7 @@
 -- `file::view` judges header, number and bucket in turn, and then hands back the slots in use.
-use mathlib.Core.Path.{_≡_, refl, sym, ap, _∙_}
+use mathlib.Core.Path.{refl, sym, _∙_}
 use native.Mathlib.Omega.{arith}
 use borrow.Author.Tests.{not-true, not-false}
-use Prim.Native.Nat.{_<_, _≤_}
-use Rattle.file.specs.File.{bucketsOf, mostOf}
 use Rattle.file.specs.File.Judge.{known, unknown}
 use Rattle.file.specs.File.Region.{buckets-known, known-fits, view-header, view-high, view-unsound, view-fits, view-used}
 use borrow.Author.Needs.{needs}

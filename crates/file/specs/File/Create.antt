@@ -1,19 +1,18 @@
 -- Create writes the created file, byte by byte, and that file is sound.
 use Prim.Native.Nat.{ℕ, zero, suc, _+_, _*_, _-_, _/_, _%_, _≤_, _<_}
 use mathlib.Core.Path.{_≡_, refl, sym, ap, ap₂, _∙_}
-use mathlib.Core.Bool.{Bool, true, false, cond, not, _&&_}
-use mathlib.Core.List.{List, [], _∷_, _++_, append-assoc}
+use mathlib.Core.Bool.{true, false, _&&_}
+use mathlib.Core.List.{List, [], _∷_, _++_}
 use native.Mathlib.Nat.{suc-mul, add-comm, mul-le-mul-right}
 use mathlib.Core.Logic.{by-cases}
 use native.Mathlib.Decide.{decLt}
 use native.Mathlib.Omega.{arith}
-use borrow.Author.Tests.{le-leb, lt-ltb, eq-eqb}
-use lib.Dec.{leb, ltb, eqb}
+use borrow.Author.Tests.{le-leb}
 use lib.ListN.{length, getD, take, drop, set, replicate, length-append, length-replicate, getD-replicate, List·getD-eq-default, replicate-append-replicate}
 use lib.Seq.{take-at, drop-at, getD-append-add}
 use Rattle.address.specs.Limits.{firstBuckets}
 use Rattle.address.specs.declared.Image.{Image}
-use Rattle.address.specs.Rules.{«at», span, buckets}
+use Rattle.address.specs.Rules.{«at», buckets}
 use Rattle.address.specs.Rules.Hash.{span-is}
 use Rattle.address.specs.Rules.Cases.{buckets-is, level-rest}
 use Rattle.layout.specs.Bytes.{leBytes, marked, allBelow, allZero, edit, part}

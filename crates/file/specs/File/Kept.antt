@@ -1,13 +1,13 @@
 -- What insert and split keep: a fresh ride in its own bucket leaves a sound file sound with just that ride more,
 -- and a split leaves a sound file sound, with the rides of one bucket in two. Every region not written stays.
 use Prim.Native.Nat.{ℕ, suc, _+_, _≤_, _<_}
-use mathlib.Core.Path.{_≡_, refl, sym, ap, ap₂, _∙_}
-use mathlib.Core.Bool.{Bool, true, false, cond, _&&_}
+use mathlib.Core.Path.{_≡_, sym, ap, ap₂, _∙_}
+use mathlib.Core.Bool.{true, cond, _&&_}
 use mathlib.Core.List.{List, [], _∷_, _++_}
 use mathlib.Core.Logic.{by-cases}
 use native.Mathlib.Decide.{ℕ-discrete, decLt}
 use native.Mathlib.Omega.{arith}
-use borrow.Author.Tests.{eq-eqb, lt-ltb}
+use borrow.Author.Tests.{lt-ltb}
 use lib.Dec.{eqb, ltb}
 use lib.ListN.{length, length-append}
 use Rattle.address.specs.Limits.{firstBuckets}

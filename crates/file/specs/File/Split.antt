@@ -1,24 +1,24 @@
 -- A split: the rides that move are just those that belong to the new bucket, and the writes in turn are the divided file.
-use Prim.Native.Nat.{ℕ, suc, _+_, _*_, _≤_, _<_}
-use mathlib.Core.Path.{_≡_, refl, sym, ap, ap₂, _∙_}
-use mathlib.Core.Bool.{Bool, true, false, cond, not}
+use Prim.Native.Nat.{ℕ, suc, _+_, _≤_, _<_}
+use mathlib.Core.Path.{_≡_, sym, ap, ap₂, _∙_}
+use mathlib.Core.Bool.{true, false, not}
 use mathlib.Core.List.{List}
 use mathlib.Core.Logic.{⊎-elim}
 use native.Mathlib.Numerals.{add-one}
 use native.Mathlib.Omega.{arith}
 use borrow.Author.Tests.{eqb-true, le-leb, lt-leb}
-use lib.Dec.{eqb, leb}
+use lib.Dec.{eqb}
 use lib.ListN.{length, take}
 use Rattle.address.specs.Limits.{firstBuckets, noBucket}
 use Rattle.address.specs.declared.Image.{Image}
-use Rattle.address.specs.Rules.{Formed, span, buckets, hash, address, level, keeps, newborn, grown}
+use Rattle.address.specs.Rules.{Formed, address, level, keeps, newborn, grown}
 use Rattle.address.specs.Rules.Hash.{span-pos}
-use Rattle.address.specs.Rules.Cases.{keeps-yes, keeps-no, newborn-is, buckets-is}
+use Rattle.address.specs.Rules.Cases.{keeps-yes, keeps-no, newborn-is}
 use Rattle.address.specs.Room.{Room}
 use Rattle.address.specs.Rules.Grow.{divided-cases, newborn-next, grown-formed, grown-buckets}
 use Rattle.layout.specs.Bytes.{Bytes, allBelow, allZero, edit}
 use Rattle.layout.specs.Bytes.Edit.{part-front, part-edit}
-use Rattle.bucket.specs.Region.{Ride, slotAt, countOf, slotUsed, ridesOf, keysOf, every, encode, kept, bucketSound}
+use Rattle.bucket.specs.Region.{Ride, slotAt, countOf, slotUsed, ridesOf, keysOf, every, encode, kept}
 use Rattle.bucket.specs.Region.Sound.{Parts, sound-whole, sound-count}
 use Rattle.bucket.specs.Region.Rides.{kept-whole, kept-lengths}
 use Rattle.bucket.specs.Region.Encode.{length-encode}

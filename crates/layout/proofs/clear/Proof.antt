@@ -1,10 +1,9 @@
 use borrow.Author.Needs.{needs}
 -- `layout::clear`: after k turns the first k bytes are zero.
 use Prim.Native.Nat.{_≤_, _-_}
-use mathlib.Core.Path.{_≡_, refl}
+use mathlib.Core.Path.{_≡_}
 use mathlib.Core.List.{_++_}
 use lib.ListN.{length, drop, replicate}
-use borrow.Author.Fill.{fill-none}
 use native.Mathlib.Omega.{arith}
 use Rattle.layout.specs.Bytes.Edit.{clear-more, clear-done}
 use Rattle.layout.proofs.clear.Statement.{statement}

@@ -2,7 +2,7 @@ use borrow.Author.Needs.{needs}
 -- `layout::put`: after k turns the first k bytes of the source stand at the place.
 use Prim.Native.Nat.{_≤_, _-_}
 use mathlib.Core.Path.{_≡_, refl}
-use lib.ListN.{length, getD}
+use lib.ListN.{length}
 use lib.Seq.{paste, paste-zero}
 use native.Mathlib.Omega.{arith}
 use Rattle.layout.specs.Bytes.Edit.{copy-more, copy-done}

@@ -1,5 +1,5 @@
 -- What a write leaves: the bytes written, and every other byte as it was. Two lists are equal by their elements, so each law is read off these.
-use Prim.Native.Nat.{ℕ, zero, suc, _+_, _-_, _≤_, _<_}
+use Prim.Native.Nat.{ℕ, suc, _+_, _-_, _≤_, _<_}
 use mathlib.Core.Path.{_≡_, refl, sym, ap, ap₂, _∙_}
 use mathlib.Core.List.{List, [], _∷_, _++_, append-nil}
 use mathlib.Core.Logic.{by-cases}
@@ -8,7 +8,7 @@ use native.Mathlib.Decide.{decLt}
 use native.Mathlib.Numerals.{add-one}
 use native.Mathlib.Omega.{arith}
 use borrow.Author.Fill.{fill-more}
-use lib.ListN.{length, getD, take, drop, replicate, length-append, length-take, length-drop, length-set, set, take-append-drop, List·getD-append, List·getD-eq-default}
+use lib.ListN.{length, getD, take, drop, replicate, length-append, length-drop, length-set, set, take-append-drop, List·getD-append, List·getD-eq-default}
 use lib.Seq.{ext-getD, getD-take, getD-drop, getD-append-add, length-take-le, paste, paste-suc, take-length, drop-length, take-append-seam, drop-append-add, take-add, drop-drop, drop-at, drop-cons}
 use Rattle.layout.specs.Bytes.{Bytes, edit, part}
 

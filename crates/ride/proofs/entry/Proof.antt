@@ -1,7 +1,6 @@
 -- `ride::entry` shows a bucket below the count, and none past it.
-use mathlib.Core.Path.{_≡_, refl, sym, ap, _∙_}
+use mathlib.Core.Path.{sym, ap}
 use borrow.Author.Tests.{lt-ltb, le-ltb}
-use Prim.Native.Nat.{ℕ}
 use mathlib.Core.Bool.{Bool, cond}
 use Rattle.ride.proofs.entry.Statement.{statement}
 use Rattle.ride.proofs.entry.Tie as tie

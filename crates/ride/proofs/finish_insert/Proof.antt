@@ -1,5 +1,5 @@
 -- `ride::finish_insert` looks the key up, adjusts the image, and places the ride unless it is held or no slot is free.
-use mathlib.Core.Path.{_≡_, refl, sym, ap, _∙_}
+use mathlib.Core.Path.{refl, sym, _∙_}
 use native.Mathlib.Omega.{arith}
 use borrow.Author.Tests.{lt-ltb, le-ltb, le-leb, lt-leb}
 use Rattle.ride.specs.Call.{noted}

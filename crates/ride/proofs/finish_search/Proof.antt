@@ -1,15 +1,13 @@
 -- `ride::finish_search` looks the key up, adjusts the image and writes the block, with the payload where the key is held.
-use mathlib.Core.Path.{_≡_, refl, sym, ap, ap₂, _∙_}
+use mathlib.Core.Path.{refl, sym, ap, _∙_}
 use Prim.Native.Nat.{ℕ, _+_, _*_, _<_}
-use mathlib.Core.List.{List}
 use native.Mathlib.Omega.{arith}
 use borrow.Author.Tests.{lt-ltb, le-ltb}
 use Rattle.bucket.specs.Region.{rideAt, slotOf}
 use Rattle.layout.specs.Bytes.{edit}
-use Rattle.file.specs.File.{mostOf, slotsOf, regionOf}
+use Rattle.file.specs.File.{slotsOf, regionOf}
 use Rattle.file.specs.File.Region.{sound-few}
-use Rattle.bucket.specs.Region.Judge.{ride-payload}
-use Rattle.ride.specs.Call.{ownOf, noted, block, noPayload}
+use Rattle.ride.specs.Call.{noted}
 use Rattle.ride.specs.Call.After.{reached-way, reached-own, reached-small, reached-first, reached-table, payload-cut}
 use Rattle.ride.specs.Call.Block.{block-payload}
 use Rattle.ride.specs.Call.Replied.{held-is, search-found, search-absent}

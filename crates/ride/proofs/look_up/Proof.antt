@@ -1,12 +1,12 @@
 -- `ride::look_up` reads the count and finds the key among the gathered keys, which is its slot.
-use mathlib.Core.Path.{_≡_, refl, sym, ap, _∙_}
+use mathlib.Core.Path.{sym, ap, _∙_}
 use native.Mathlib.Omega.{arith}
 use Prim.Native.Nat.{ℕ, _+_}
 use lib.Dec.{eqb}
 use lib.ListN.{getD}
 use Rattle.layout.specs.Bytes.{leAt, firstFrom}
 use Rattle.bucket.specs.Region.Keep.{find-slot}
-use Rattle.file.specs.File.{regionOf, slotsOf, startOf}
+use Rattle.file.specs.File.{regionOf, startOf}
 use Rattle.file.specs.File.Region.{known-fits, count-in, sound-few}
 use borrow.Author.Needs.{needs}
 use Rattle.ride.proofs.look_up.Statement.{statement}

@@ -1,5 +1,5 @@
 -- `ride::note` puts the bucket at the place that the count tells.
-use mathlib.Core.Path.{_≡_, refl, sym, ap, _∙_}
+use mathlib.Core.Path.{refl}
 use native.Mathlib.Omega.{arith}
 use Rattle.ride.specs.Call.Route.{note-first, note-second, note-third}
 use borrow.Author.Needs.{needs}

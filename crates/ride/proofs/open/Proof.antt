@@ -1,6 +1,5 @@
 -- `ride::open` judges in the replies' order; what each judgment showed is known of a call that passes.
-use mathlib.Core.Path.{_≡_, refl, sym, ap, _∙_}
-use Prim.Native.Nat.{ℕ, _≤_}
+use mathlib.Core.Path.{sym, ap, _∙_}
 use native.Mathlib.Omega.{arith}
 use borrow.Author.Tests.{not-true, not-false}
 use Rattle.client.specs.Table.Laws.{record-fits}

@@ -1,5 +1,5 @@
 -- `ride::over_capacity` is one comparison.
-use mathlib.Core.Path.{_≡_, refl}
+use mathlib.Core.Path.{refl}
 use borrow.Author.Tests.{lt-ltb, le-ltb}
 use Rattle.ride.proofs.over_capacity.Statement.{statement}
 use Rattle.ride.proofs.over_capacity.Tie as tie

@@ -1,13 +1,11 @@
 -- `ride::search` refuses in the replies' order, walks the route, and finishes at the key's own bucket.
-use mathlib.Core.Path.{_≡_, refl, sym, ap, subst, _∙_}
+use mathlib.Core.Path.{refl, sym, ap, subst, _∙_}
 use Prim.Native.Nat.{ℕ}
 use mathlib.Core.Bool.{Bool, true, false}
 use mathlib.Core.List.{List}
-use lib.ListN.{length}
 use native.Mathlib.Omega.{arith}
 use borrow.Author.Tests.{not-true, not-false, eq-eqb, ne-eqb}
 use Rattle.address.specs.declared.Image.{Image}
-use Rattle.client.specs.Table.{imageOf}
 use Rattle.ride.specs.declared.Walk.{Walk}
 use Rattle.file.specs.File.{bucketSoundIn}
 use Rattle.ride.specs.Call.{block, noPayload, noted, wayOf, everyOn, cut}

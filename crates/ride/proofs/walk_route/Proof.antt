@@ -12,7 +12,6 @@ use Rattle.address.specs.declared.Image.{Image}
 use Rattle.address.specs.Rules.{level}
 use Rattle.address.specs.Rules.Cases.{level-high}
 use Rattle.ride.specs.Call.Route.{Walked}
-use Rattle.ride.specs.Call.{wayOf}
 use mathlib.Core.List.{List}
 use mathlib.Core.Path.{subst}
 use Rattle.ride.specs.Call.Route.{Walking, wayFrom, way-is, walking-start, walking-exists, met-keep, met-unsound, met-send}

@@ -1,12 +1,12 @@
 -- After a walk that ended at the key's own bucket: its first bucket and whether that kept the key, so the adjusted image; and the key's slot there.
-use Prim.Native.Nat.{ℕ, zero, suc, _+_, _*_, _-_, _^_, _≤_, _<_}
+use Prim.Native.Nat.{ℕ, suc, _+_, _*_, _-_, _^_, _≤_, _<_}
 use mathlib.Core.Path.{_≡_, refl, sym, ap, ap₂, _∙_}
-use mathlib.Core.Bool.{Bool, true, false, cond}
+use mathlib.Core.Bool.{Bool, true, cond}
 use mathlib.Core.List.{List, [], _∷_}
 use mathlib.Core.Logic.{⊎-elim}
 use native.Mathlib.Omega.{arith}
 use borrow.Author.Tests.{lt-ltb, eq-eqb, ne-eqb}
-use lib.Dec.{ltb, eqb}
+use lib.Dec.{eqb}
 use lib.ListN.{length, getD, take, drop, length-drop}
 use lib.Seq.{length-take-le}
 use Rattle.address.specs.Compare.{same}
@@ -29,7 +29,7 @@ use Rattle.ride.specs.declared.Walk.{Walk}
 use Rattle.ride.specs.Call.{wayOf, ownOf, noted, adjustedTable}
 use Rattle.ride.specs.Call.Open.{Opening}
 use Rattle.ride.specs.Call.Route.{Walked}
-use Rattle.ride.specs.Call.Block.{noted-length, noted-first, shown}
+use Rattle.ride.specs.Call.Block.{noted-length, noted-first}
 
 some-first : 0 < firstBuckets
 some-first = omega arith

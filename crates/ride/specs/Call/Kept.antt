@@ -1,17 +1,16 @@
 -- What insert and search keep in a sound file: no bucket on a route is unsound, so neither gives 7; insert leaves the file sound;
 -- the image that either writes is well formed, not ahead of the file and believes in no fewer buckets.
 use Prim.Native.Nat.{ℕ, _+_, _*_, _-_, _^_, _≤_, _<_}
-use mathlib.Core.Path.{_≡_, refl, sym, ap, ap₂, subst, _∙_}
-use mathlib.Core.Bool.{Bool, true, false, cond, not, _&&_, true≢false}
+use mathlib.Core.Path.{_≡_, refl, sym, ap, _∙_}
+use mathlib.Core.Bool.{Bool, true, false, cond, not, _&&_}
 use mathlib.Core.List.{List, [], _∷_}
 use mathlib.Core.Logic.{by-cases}
 use native.Mathlib.Decide.{ℕ-discrete}
 use native.Mathlib.Omega.{arith}
 use borrow.Author.Tests.{eqb-true, eq-eqb, ltb-true, ltb-false, leb-false}
-use lib.Dec.{leb, ltb, eqb}
+use lib.Dec.{ltb, eqb}
 use lib.ListN.{length, getD}
 use Rattle.address.specs.Limits.{firstBuckets, noBucket}
-use Rattle.address.specs.declared.Image.{Image}
 use Rattle.address.specs.Rules.{Formed, NotAhead, buckets, address, imageAfter, forwards}
 use Rattle.address.specs.Rules.Cases.{buckets-is}
 use Rattle.address.specs.Rules.Address.{address-exists}
@@ -26,9 +25,9 @@ use Rattle.bucket.specs.Region.Keep.{slot-most}
 use Rattle.client.specs.Table.{imageOf, recordSound, tableSound, tableRefusals}
 use Rattle.client.specs.Table.Kept.{written-image, table-kept}
 use Rattle.client.specs.Table.Laws.{record-image, record-fits}
-use Rattle.file.specs.File.{mostOf, slotsOf, stateOf, bucketsOf, headerSound, regionOf, bucketSoundIn, fileSound, withRide}
+use Rattle.file.specs.File.{mostOf, slotsOf, stateOf, bucketsOf, headerSound, regionOf, bucketSoundIn, fileSound}
 use Rattle.file.specs.File.Judge.{header-ranges, buckets-of, state-small}
-use Rattle.file.specs.File.Kept.{sound-header, sound-bucket, ride-kept}
+use Rattle.file.specs.File.Kept.{sound-bucket, ride-kept}
 use Rattle.ride.specs.Call.{Outcome, early, cut, everyOn, wayOf, ownOf, held, full, block, noPayload, adjustedTable, routed, search, overfull, insert, inserted, entry, forwardsIn}
 use Rattle.ride.specs.Call.Replied.{searched, placed}
 use Rattle.ride.specs.Call.Open.{early-table, early-record, early-header, early-ahead}

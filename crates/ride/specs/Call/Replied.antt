@@ -1,13 +1,12 @@
 -- The outcome of a key call by its cases, in the replies' order; and no second outcome fits.
-use Prim.Native.Nat.{ℕ, suc, _+_, _≤_, _<_}
+use Prim.Native.Nat.{ℕ, _+_}
 use mathlib.Core.Path.{_≡_, refl, sym, ap, ap₂, _∙_}
-use mathlib.Core.Bool.{Bool, true, false, cond, not, _&&_}
+use mathlib.Core.Bool.{Bool, true, false, cond, _&&_}
 use mathlib.Core.List.{List, []}
 use native.Mathlib.Omega.{arith}
-use borrow.Author.Tests.{eq-eqb, ne-eqb, lt-ltb, le-ltb, le-leb, lt-leb}
+use borrow.Author.Tests.{eq-eqb, ne-eqb}
 use lib.Dec.{leb, ltb, eqb}
 use lib.ListN.{length}
-use Rattle.address.specs.declared.Image.{Image}
 use Rattle.layout.specs.Replies.{reply}
 use Rattle.bucket.specs.Region.{countOf, rideAt, slotOf}
 use Rattle.client.specs.Table.{imageOf}

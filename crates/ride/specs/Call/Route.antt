@@ -1,20 +1,20 @@
 -- A route walked bucket by bucket: what is noted so far and what is still to come are the whole route, cut after its first unsound bucket.
-use Prim.Native.Nat.{ℕ, zero, suc, _+_, _-_, _≤_, _<_}
+use Prim.Native.Nat.{ℕ, suc, _+_, _-_, _≤_, _<_}
 use mathlib.Core.Path.{_≡_, refl, sym, ap, ap₂, _∙_}
-use mathlib.Core.Bool.{Bool, true, false, cond, _&&_, false≢true}
-use mathlib.Core.List.{List, [], _∷_, _++_, append-assoc, append-nil}
+use mathlib.Core.Bool.{Bool, true, false, cond, false≢true}
+use mathlib.Core.List.{List, [], _∷_, _++_, append-assoc}
 use mathlib.Core.Logic.{⊎-elim}
 use native.Mathlib.Omega.{arith}
-use lib.ListN.{length, getD, take, length-append}
-use Rattle.address.specs.Limits.{firstBuckets, noBucket}
+use lib.ListN.{take}
+use Rattle.address.specs.Limits.{firstBuckets}
 use Rattle.address.specs.declared.Image.{Image}
-use Rattle.address.specs.Rules.{Formed, NotAhead, buckets, hash, address, level, onward, fate, routeFrom, route}
+use Rattle.address.specs.Rules.{Formed, NotAhead, buckets, hash, address, level, onward, fate, routeFrom}
 use Rattle.address.specs.Compare.{same}
 use Rattle.address.specs.Rules.Cases.{buckets-is, fate-kept, fate-sent, fate-stopped}
 use Rattle.address.specs.declared.Fate.the-variants.{Keep, SendOn, Unsound}
 use Rattle.address.specs.Rules.Address.{address-own}
 use Rattle.address.specs.Rules.Route.{Reaches, kept, sent, reaches, reaches-room, route-is, route-kept, route-sent}
-use Rattle.layout.specs.Bytes.Tests.{and-both, and-left, and-right}
+use Rattle.layout.specs.Bytes.Tests.{and-left, and-right}
 use Rattle.file.specs.File.{stateOf, bucketsOf, bucketSoundIn}
 use Rattle.file.specs.File.Judge.{buckets-of}
 use Rattle.ride.specs.declared.Walk.{Walk}
