@@ -5,6 +5,7 @@ pub mod Adjust
 pub mod Cases
 pub mod Grow
 pub mod Hash
+pub mod Order
 pub mod Parent
 pub mod Route
 pub mod Scan

@@ -9,7 +9,7 @@ use mathlib.Core.Logic.{_↔_, _⊎_, ⊎-elim}
 use native.Mathlib.Omega.{arith}
 use borrow.Author.Tests.{eq-eqb, ne-eqb}
 use lib.Dec.{eqb}
-use lib.ListN.{length, length-map}
+use lib.ListN.{length, length-map, getD}
 use Rattle.address.specs.Compare.{below, same}
 use Rattle.address.specs.declared.Image.{Image}
 use Rattle.address.specs.Rules.{Formed, NotAhead, span, buckets, hash, address, level, child, Message, message, numbers, opening, sends, answers, handled, scan, visits, greatest, lastRound, highest}
@@ -65,14 +65,19 @@ weight-append N x [] q = omega arith
 weight-append N x (m ∷ p) q = omega (arith, weight-append N x p q)
 
 -- The weight at the first n buckets together.
-total : ℕ → List Message → ℕ → ℕ
+pub total : ℕ → List Message → ℕ → ℕ
 total N queue zero = 0
 total N queue (suc n) = total N queue n + weight N n queue
 
-total-nil : (N n : ℕ) → total N [] n ≡ 0
+pub total-nil : (N n : ℕ) → total N [] n ≡ 0
 unfolding total weight
 total-nil N zero = refl
 total-nil N (suc n) = omega (arith, total-nil N n)
+
+total-append : (N : ℕ) (p q : List Message) (n : ℕ) → total N (p ++ q) n ≡ total N p n + total N q n
+unfolding total
+total-append N p q zero = refl
+total-append N p q (suc n) = omega (arith, total-append N p q n, weight-append N n p q)
 
 total-ones : (N : ℕ) (queue : List Message) → ((x : ℕ) → weight N x queue ≡ 1) → (n : ℕ) → total N queue n ≡ n
 unfolding total
@@ -80,13 +85,13 @@ total-ones N queue one zero = refl
 total-ones N queue one (suc n) = omega (arith, total-ones N queue one n, one n)
 
 -- A message for a bucket that exists, at a level up to the bucket's own, a round for each level above `base` at the most.
-record Good (N : ℕ) (file : Image) (base : ℕ) (m : Message) : Type 0 where
-  exists : m .to < buckets N file
-  up : m .level ≤ level N file (m .to)
-  low : m .to < span N (m .level)
-  soon : m .round + base ≤ m .level
+pub record Good (N : ℕ) (file : Image) (base : ℕ) (m : Message) : Type 0 where
+  pub exists : m .to < buckets N file
+  pub up : m .level ≤ level N file (m .to)
+  pub low : m .to < span N (m .level)
+  pub soon : m .round + base ≤ m .level
 
-abbrev AllGood : ℕ → Image → ℕ → List Message → Type 0
+abbrev pub AllGood : ℕ → Image → ℕ → List Message → Type 0
 AllGood N file base [] = Unit {0}
 AllGood N file base (m ∷ queue) = Good N file base m × AllGood N file base queue
 
@@ -111,7 +116,7 @@ module _ (N : ℕ) (positive : 0 < N) (file : Image) (formed : Formed N file) wh
       (hash-suc N positive m x)
 
   -- a bucket's children exist, at no lower level than they are told
-  child-good : (base a r m : ℕ) → a < buckets N file → suc m ≤ level N file a → a < span N m → r + base ≤ m
+  pub child-good : (base a r m : ℕ) → a < buckets N file → suc m ≤ level N file a → a < span N m → r + base ≤ m
       → Good N file base (message (child N a m) (suc m) (suc r))
   unfolding child
   child-good base a r m exists up low soon = ⊎-elim lower upper (below m (file .level))
@@ -174,7 +179,7 @@ module _ (N : ℕ) (positive : 0 < N) (file : Image) (formed : Formed N file) wh
     unfolding answers
     answers-good m g = sends-good base (m .to) (m .round) (m .level) (level N file (m .to) - m .level) (g .exists) (omega (arith, g .up)) (g .low) (g .soon)
 
-    next-good : (m : Message) (queue : List Message) → AllGood N file base (m ∷ queue) → AllGood N file base (queue ++ answers N file m)
+    pub next-good : (m : Message) (queue : List Message) → AllGood N file base (m ∷ queue) → AllGood N file base (queue ++ answers N file m)
     next-good m queue g = good-append N file base queue (answers N file m) (g .1) (answers-good m (g .0))
 
     -- handling a message takes off the weight at its bucket
@@ -207,9 +212,19 @@ module _ (N : ℕ) (positive : 0 < N) (file : Image) (formed : Formed N file) wh
         (λ p. omega (arith, total-before m queue g n p, next-weight m queue g n l, bit-yes n (m .to) (omega arith)))
         (below (m .to) n)
 
-    next-total : (m : Message) (queue : List Message) → Good N file base m
+    pub next-total : (m : Message) (queue : List Message) → Good N file base m
         → total N (m ∷ queue) (buckets N file) ≡ suc (total N (queue ++ answers N file m) (buckets N file))
     next-total m queue g = total-past m queue g (buckets N file) (g .exists) (omega arith)
+
+    -- each waiting message weighs 1 or more
+    pub waiting-total : (queue : List Message) → AllGood N file base queue → length queue ≤ total N queue (buckets N file)
+    waiting-total [] g = omega arith
+    waiting-total (m ∷ queue) g = omega (
+      arith,
+      waiting-total queue (g .1),
+      next-total m queue (g .0),
+      total-append N queue (answers N file m) (buckets N file),
+    )
 
     -- with room for the whole weight, each bucket is visited as often as it weighs
     handled-times : (most : ℕ) (queue : List Message) → AllGood N file base queue → total N queue (buckets N file) ≤ most
@@ -253,6 +268,13 @@ times-good N file base (m ∷ queue) g x past = omega (
   times-good N file base queue (g .1) x past,
   bit-no x (m .to) (omega (arith, g .0 .exists)),
 )
+
+-- each good message is for a bucket that exists
+good-exists : (N : ℕ) (file : Image) (base : ℕ) (queue : List Message) → AllGood N file base queue → (k : ℕ) → k < length queue
+    → getD (map (λ m. m .to) queue) k 0 < buckets N file
+good-exists N file base [] g k h = absurd (omega arith)
+good-exists N file base (m ∷ queue) g zero h = g .0 .exists
+good-exists N file base (m ∷ queue) g (suc k) h = good-exists N file base queue (g .1) k (omega arith)
 
 -- the greatest of a list
 greatest-at : (f : ℕ → ℕ) (a c x : ℕ) → a ≤ x → x < a + c → f x ≤ greatest (map f (numbers a c))
@@ -298,7 +320,7 @@ module _ (N : ℕ) (positive : 0 < N) (file : Image) (formed : Formed N file)
     sent-good (suc a) c (omega arith),
   )
 
-  opening-good : AllGood N file (image .level) (opening N image)
+  pub opening-good : AllGood N file (image .level) (opening N image)
   unfolding opening
   opening-good = sent-good 0 (buckets N image) (omega arith)
 
@@ -333,13 +355,14 @@ module _ (N : ℕ) (positive : 0 < N) (file : Image) (formed : Formed N file)
   unfolding opening
   opening-weight x = sent-weight x 0 (buckets N image) (omega arith) (omega (arith, address-exists N positive image imageFormed x)) (omega arith)
 
-  room : total N (opening N image) (buckets N file) ≡ buckets N file
-  room = total-ones N (opening N image) opening-weight (buckets N file)
+  -- and so the whole weight is the room that there is
+  pub opening-total : total N (opening N image) (buckets N file) ≡ buckets N file
+  opening-total = total-ones N (opening N image) opening-weight (buckets N file)
 
   -- each bucket of the file is visited exactly once
   pub visits-once : (x : ℕ) → x < buckets N file → times x (visits N file image) ≡ 1
   unfolding visits scan
-  visits-once x there = handled-times N positive file formed (image .level) (buckets N file) (opening N image) opening-good (omega (arith, room)) x there
+  visits-once x there = handled-times N positive file formed (image .level) (buckets N file) (opening N image) opening-good (omega (arith, opening-total)) x there
       ∙ opening-weight x
 
   -- and nothing else is
@@ -351,7 +374,13 @@ module _ (N : ℕ) (positive : 0 < N) (file : Image) (formed : Formed N file)
   pub visits-length : length (visits N file image) ≡ buckets N file
   unfolding visits scan
   visits-length = length-map (scan N file image) (λ m. m .to)
-      ∙ handled-length N positive file formed (image .level) (buckets N file) (opening N image) opening-good (omega (arith, room)) ∙ room
+      ∙ handled-length N positive file formed (image .level) (buckets N file) (opening N image) opening-good (omega (arith, opening-total)) ∙ opening-total
+
+  pub visits-exist : (k : ℕ) → k < buckets N file → getD (visits N file image) k 0 < buckets N file
+  unfolding visits scan
+  visits-exist k h = good-exists N file (image .level) (scan N file image)
+      (handled-good N positive file formed (image .level) (buckets N file) (opening N image) opening-good) k
+      (omega (arith, visits-length, length-map (scan N file image) (λ m. m .to)))
 
   -- the last round is at most the highest bucket level less i'
   pub rounds : lastRound N file image ≤ highest N file - image .level

@@ -1,0 +1,71 @@
+// The order in which a scan visits the buckets. Numbers only: a message's level follows from its bucket's number, so the list of
+// the buckets that were sent a message is all that a scan has to remember.
+use address::FIRST_BUCKETS;
+use address::Image;
+ghost use mathlib.Core.Path.{_≡_};
+ghost use mathlib.Core.List.{_++_};
+ghost use Prim.Native.Nat.{ℕ, _+_, _-_, _≤_, _<_};
+ghost use lib.ListN.{length, take};
+ghost use Rattle.address.specs.Limits.{firstBuckets};
+ghost use Rattle.address.specs.Room.{Room, ImageRoom};
+ghost use Rattle.address.specs.Rules.{buckets, child, numbers, visits};
+ghost use Rattle.address.specs.Rules.Order.{born, Told};
+ghost use Rattle.order.specs.Queue.{Scannable};
+
+// The message level of a bucket, by its number: its level in the image where the client believes in it, otherwise
+// how many binary digits it has, since it was born at that level.
+fn message_level(image: Image, bucket: u32) -> u32
+    requires { ⌜ ImageRoom firstBuckets image ⌝ }
+    ensures { λ r. ⌜ Told firstBuckets image bucket r ⌝ }
+{
+    if bucket < address::buckets(FIRST_BUCKETS, image) {
+        return address::level_of(FIRST_BUCKETS, image, bucket);
+    }
+    32 - u32::leading_zeros(bucket)
+}
+
+// The client sends to the first `count` buckets, in number order.
+fn send_first(count: usize, queue: &mut [u16])
+    requires { ⌜ (count ≤ 65536) × (count ≤ length (now queue)) ⌝ }
+    ensures { λ _. ⌜ take count (now (queue .exit)) ≡ numbers 0 count ⌝ }
+{
+    let mut k = 0;
+    while k < count {
+        queue[k] = k as u16;
+        k += 1;
+    }
+}
+
+// A bucket of level `own` that gets message level `told` sends to the child of each level between, behind the first
+// `tail` in the list. Answers how many there are then.
+fn send_on(bucket: u32, told: u32, own: u32, tail: usize, queue: &mut [u16]) -> usize
+    requires { ⌜ Room firstBuckets own × (tail + (own - told) ≤ length (now queue)) × ((k : ℕ) → told ≤ k → k < own → child firstBuckets bucket k < 65536) ⌝ }
+    ensures { λ r. ⌜ (r ≡ tail + (own - told)) × (take r (now (queue .exit)) ≡ take tail (now (queue .entry)) ++ born firstBuckets bucket told (own - told)) ⌝ }
+{
+    let mut level = told;
+    let mut end = tail;
+    while level < own {
+        queue[end] = address::child(FIRST_BUCKETS, bucket, level) as u16;
+        level += 1;
+        end += 1;
+    }
+    end
+}
+
+// Fills the list's start with the buckets of a file in the order in which a scan by a client's image visits them.
+pub fn visit_order(state: Image, image: Image, queue: &mut [u16])
+    requires { ⌜ Scannable state image × (buckets firstBuckets state ≤ length (now queue)) ⌝ }
+    ensures { λ _. ⌜ take (buckets firstBuckets state) (now (queue .exit)) ≡ visits firstBuckets state image ⌝ }
+{
+    let count = address::buckets(FIRST_BUCKETS, state) as usize;
+    let mut tail = address::buckets(FIRST_BUCKETS, image) as usize;
+    send_first(tail, queue);
+    let mut handled = 0;
+    while handled < count {
+        let bucket = queue[handled] as u32;
+        let told = message_level(image, bucket);
+        let own = address::level_of(FIRST_BUCKETS, state, bucket);
+        tail = send_on(bucket, told, own, tail, queue);
+        handled += 1;
+    }
+}
