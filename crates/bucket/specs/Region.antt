@@ -2,7 +2,9 @@
 pub mod Judge
 pub mod Keep
 pub mod Rides
+pub mod Divide
 pub mod Encode
+pub mod Single
 pub mod Sound
 pub mod Write
 use Prim.Native.Nat.{ℕ, zero, suc, _+_, _*_, _-_, _^_, _<_}

@@ -1,14 +1,16 @@
 // One bucket's region: judged, searched, a ride placed in it, and its rides divided.
 ghost use mathlib.Core.Path.{_≡_};
-ghost use mathlib.Core.Bool.{_&&_, not, true};
-ghost use Prim.Native.Nat.{ℕ, _+_, _-_, _≤_, _<_};
+ghost use mathlib.Core.Bool.{_&&_, not, cond};
+ghost use Prim.Native.Nat.{ℕ, _+_, _*_, _-_, _≤_, _<_};
 ghost use lib.Dec.{eqb};
-ghost use lib.ListN.{length, getD, take};
+ghost use lib.ListN.{length, replicate};
 ghost use Rattle.address.specs.Room.{Room};
 ghost use Rattle.address.specs.Rules.{keeps};
 ghost use Rattle.layout.specs.Bytes.{leBytes, allBelow, firstFrom, edit, part};
 ghost use mathlib.Core.List.{[]};
-ghost use Rattle.bucket.specs.Region.{slotAt, countOf, slotUsed, ridesFrom, ridesOf, keysOf, every, distinct, headSound, soundWith, slotBytes, layOut, encode, kept};
+ghost use Rattle.bucket.specs.Region.{slotAt, countOf, slotUsed, keyAt, ridesFrom, ridesOf, keysOf, every, distinct, headSound, soundWith, headBytes, slotBytes, encode, kept};
+ghost use Rattle.bucket.specs.Region.Divide.{Halves, Parted};
+ghost use Rattle.bucket.specs.Region.Single.{Chained, fingerprint, latestOf};
 
 // Whether a head is well formed, of the level given and with a count of at most `slots`.
 fn head_sound(region: &[u8], slots: u32, level: u32) -> bool
@@ -23,99 +25,144 @@ fn head_sound(region: &[u8], slots: u32, level: u32) -> bool
         & (layout::read2(region, 4) <= slots as u64)
 }
 
-// Reads the keys of the slots in use, and tells whether each slot is marked and each key belongs.
-fn gather(
-    region: &[u8],
-    count: usize,
-    first: u32,
-    bucket: u32,
-    level: u32,
-    keys: &mut [u64],
-) -> bool
-    requires { ⌜ Room first level × (slotAt count ≤ length (now region)) × (count ≤ 64) × (length (now keys) ≡ 64) ⌝ }
-    ensures { λ r. ⌜ (r ≡ (allBelow (slotUsed (now (region .entry))) count && every (keeps first bucket level) (keysOf (ridesFrom (now (region .entry)) 0 count)))) × (take count (now (keys .exit)) ≡ keysOf (ridesFrom (now (region .entry)) 0 count)) ⌝ }
+// The key in a slot.
+pub fn key_at(region: &[u8], slot: usize) -> u64
+    requires { ⌜ (slotAt slot + 24 ≤ length (now region)) × (slot < 64) ⌝ }
+    ensures { λ r. ⌜ r ≡ keyAt (now (region .entry)) slot ⌝ }
 {
-    let mut used = true;
-    let mut belong = true;
-    let mut k = 0;
-    while k < count {
-        let at = 8 + 24 * k;
-        let key = layout::read8(region, at + 2);
-        keys[k] = key;
-        used = used & layout::has_mark(region, at, b"LR");
-        belong = belong & (address::hash(first, level, key) == bucket);
-        k = k + 1;
-    }
-    used & belong
+    layout::read8(region, 8 + 24 * slot + 2)
 }
 
-// Whether a key differs from all the keys from a place up to the count.
-fn differs(keys: &[u64], from: usize, count: usize, key: u64) -> bool
-    requires { ⌜ (from ≤ count) × (count ≤ length (now keys)) ⌝ }
-    ensures { λ r. ⌜ r ≡ every (λ (other : ℕ). not (eqb key other)) (part from (count - from) (now (keys .entry))) ⌝ }
-{
-    let mut fresh = true;
-    let mut k = from;
-    while k < count {
-        fresh = fresh & (key != keys[k]);
-        k = k + 1;
-    }
-    fresh
-}
-
-// Whether no key stands twice.
-fn all_differ(keys: &[u64], count: usize) -> bool
-    requires { ⌜ count ≤ length (now keys) ⌝ }
-    ensures { λ r. ⌜ r ≡ distinct (take count (now (keys .entry))) ⌝ }
-{
-    let mut single = true;
-    let mut k = 0;
-    while k < count {
-        single = single & differs(keys, k + 1, count, keys[k]);
-        k = k + 1;
-    }
-    single
-}
-
-// Whether a region is sound as that of a bucket of a level; its keys are then gathered.
-pub fn judge(
-    region: &[u8],
-    slots: u32,
-    first: u32,
-    bucket: u32,
-    level: u32,
-    keys: &mut [u64],
-) -> bool
-    requires { ⌜ Room first level × (length (now region) ≡ slotAt slots) × (slots ≤ 64) × (length (now keys) ≡ 64) ⌝ }
-    ensures { λ r. ⌜ (r ≡ soundWith slots level (keeps first bucket level) (now (region .entry))) × (r ≡ true → take (countOf (now (region .entry))) (now (keys .exit)) ≡ keysOf (ridesOf (now (region .entry)))) ⌝ }
-{
-    if !head_sound(region, slots, level) {
-        return false;
-    }
-    let count = layout::read2(region, 4) as usize;
-    if !gather(region, count, first, bucket, level, keys) {
-        return false;
-    }
-    let rest = 8 + 24 * count;
-    if !layout::is_zero(&region[rest..]) {
-        return false;
-    }
-    all_differ(keys, count)
-}
-
-// The place of a key among the first keys, and the count if it is not there.
-pub fn find(keys: &[u64], count: usize, key: u64) -> usize
-    requires { ⌜ count ≤ length (now keys) ⌝ }
-    ensures { λ r. ⌜ r ≡ firstFrom (λ (k : ℕ). eqb (getD (now (keys .entry)) k 0) key) count 0 ⌝ }
+// The slot of the first ones that holds a key, and their count if none does.
+pub fn find(region: &[u8], count: usize, key: u64) -> usize
+    requires { ⌜ (slotAt count ≤ length (now region)) × (count ≤ 64) ⌝ }
+    ensures { λ r. ⌜ r ≡ firstFrom (λ (k : ℕ). eqb (keyAt (now (region .entry)) k) key) count 0 ⌝ }
 {
     let mut k = 0;
     while k < count {
-        if keys[k] == key {
+        if key_at(region, k) == key {
             return k;
         }
         k = k + 1;
     }
     k
+}
+
+// The same as `slots_sound`, each key compared with all before it.
+fn slots_paired(region: &[u8], count: usize, first: u32, bucket: u32, level: u32) -> bool
+    requires { ⌜ Room first level × (slotAt count ≤ length (now region)) × (count ≤ 64) ⌝ }
+    ensures { λ r. ⌜ r ≡ (allBelow (slotUsed (now (region .entry))) count && every (keeps first bucket level) (keysOf (ridesFrom (now (region .entry)) 0 count)) && distinct (keysOf (ridesFrom (now (region .entry)) 0 count))) ⌝ }
+{
+    let mut used = true;
+    let mut belong = true;
+    let mut k = 0;
+    while k < count {
+        let key = key_at(region, k);
+        used = used & layout::has_mark(region, 8 + 24 * k, b"LR");
+        belong = belong & (address::hash(first, level, key) == bucket);
+        if find(region, k, key) < k {
+            return false;
+        }
+        k = k + 1;
+    }
+    used & belong
+}
+
+// A number below 1,024 that keys of different rides and lifts seldom share.
+fn fingerprint(key: u64) -> usize
+    ensures { λ r. ⌜ (r ≡ fingerprint key) × (r < 1024) ⌝ }
+{
+    let ride = key % 4294967296;
+    let lift = key / 4294967296;
+    ((ride * 2654435769 + lift * 1500000001) / 4194304 % 1024) as usize
+}
+
+// Whether a key differs from those of the first slots: of its fingerprint they are the latest, one less than a number
+// that is not 0, the one before that, and so on.
+fn differs(region: &[u8], before: &[u8], count: usize, latest: usize, key: u64) -> bool
+    requires { ⌜ (slotAt count ≤ length (now region)) × (count ≤ 64) × Chained (now region) (now before) count × (latest ≡ latestOf (now region) (fingerprint key) count) ⌝ }
+    ensures { λ r. ⌜ r ≡ every (λ (other : ℕ). not (eqb other key)) (keysOf (ridesFrom (now (region .entry)) 0 count)) ⌝ }
+{
+    let mut next = latest;
+    while next != 0 {
+        let slot = next - 1;
+        if key_at(region, slot) == key {
+            return false;
+        }
+        next = before[slot] as usize;
+    }
+    true
+}
+
+// The same as `slots_sound`, with tables to chain each slot to the latest before it of its key's fingerprint, where an equal
+// key would be met.
+fn slots_chained(
+    region: &[u8],
+    count: usize,
+    first: u32,
+    bucket: u32,
+    level: u32,
+    latest: &mut [u8],
+    before: &mut [u8],
+) -> bool
+    requires { ⌜ Room first level × (slotAt count ≤ length (now region)) × (count ≤ 64) × (now latest ≡ replicate 1024 0) × (length (now before) ≡ 64) ⌝ }
+    ensures { λ r. ⌜ r ≡ (allBelow (slotUsed (now (region .entry))) count && every (keeps first bucket level) (keysOf (ridesFrom (now (region .entry)) 0 count)) && distinct (keysOf (ridesFrom (now (region .entry)) 0 count))) ⌝ }
+{
+    let mut used = true;
+    let mut belong = true;
+    let mut k = 0;
+    while k < count {
+        let key = key_at(region, k);
+        used = used & layout::has_mark(region, 8 + 24 * k, b"LR");
+        belong = belong & (address::hash(first, level, key) == bucket);
+        let mark = fingerprint(key);
+        let next = latest[mark];
+        if !differs(region, before, k, next as usize, key) {
+            return false;
+        }
+        before[k] = next;
+        latest[mark] = (k + 1) as u8;
+        k = k + 1;
+    }
+    used & belong
+}
+
+// Whether each slot in use is marked, each key belongs and none stands twice: few keys are compared with one another, many are
+// chained.
+fn slots_sound(region: &[u8], count: usize, first: u32, bucket: u32, level: u32) -> bool
+    requires { ⌜ Room first level × (slotAt count ≤ length (now region)) × (count ≤ 64) ⌝ }
+    ensures { λ r. ⌜ r ≡ (allBelow (slotUsed (now (region .entry))) count && every (keeps first bucket level) (keysOf (ridesFrom (now (region .entry)) 0 count)) && distinct (keysOf (ridesFrom (now (region .entry)) 0 count))) ⌝ }
+{
+    if count <= 8 {
+        return slots_paired(region, count, first, bucket, level);
+    }
+    let mut latest = [0u8; 1024];
+    let mut before = [0u8; 64];
+    slots_chained(
+        region,
+        count,
+        first,
+        bucket,
+        level,
+        &mut latest,
+        &mut before,
+    )
+}
+
+// Whether a region is sound as that of a bucket of a level.
+pub fn judge(region: &[u8], slots: u32, first: u32, bucket: u32, level: u32) -> bool
+    requires { ⌜ Room first level × (length (now region) ≡ slotAt slots) × (slots ≤ 64) ⌝ }
+    ensures { λ r. ⌜ r ≡ soundWith slots level (keeps first bucket level) (now (region .entry)) ⌝ }
+{
+    if !head_sound(region, slots, level) {
+        return false;
+    }
+    let count = layout::read2(region, 4) as usize;
+    if !slots_sound(region, count, first, bucket, level) {
+        return false;
+    }
+    let rest = 8 + 24 * count;
+    layout::is_zero(&region[rest..])
 }
 
 // Places a ride in the first free slot, and answers the count then held.
@@ -132,51 +179,111 @@ pub fn place(region: &mut [u8], count: usize, key: u64, payload: &[u8]) -> usize
     held
 }
 
-// Makes a region that of an empty bucket of a level.
-pub fn renew(region: &mut [u8], slots: u32, level: u32)
-    requires { ⌜ (length (now region) ≡ slotAt slots) × (level < 256) ⌝ }
-    ensures { λ _. ⌜ now (region .exit) ≡ encode slots level [] ⌝ }
+// Writes a bucket's head.
+fn put_head(bytes: &mut [u8], at: usize, level: u32, count: usize)
+    requires { ⌜ (at + 8 ≤ length (now bytes)) × (level < 256) ⌝ }
+    ensures { λ _. ⌜ now (bytes .exit) ≡ edit at (headBytes level count) (now (bytes .entry)) ⌝ }
 {
-    layout::clear(region);
-    layout::put(region, 0, b"LB");
-    region[2] = level as u8;
+    let high = count / 256;
+    let source = [
+        b'L',
+        b'B',
+        level as u8,
+        0,
+        (count % 256) as u8,
+        (high % 256) as u8,
+        0,
+        0,
+    ];
+    layout::put(bytes, at, &source);
 }
 
-// Copies the rides that belong to a bucket at a level into the slots of an empty region, in their order,
-// and answers how many they are.
-fn sift(
-    source: &[u8],
-    count: usize,
-    target: &mut [u8],
+// Writes a bucket's head and makes its unused slots zero.
+fn close(bytes: &mut [u8], at: usize, slots: u32, level: u32, count: usize)
+    requires { ⌜ (at + slotAt slots ≤ length (now bytes)) × (count ≤ slots) × (slots ≤ 64) × (level < 256) ⌝ }
+    ensures { λ _. ⌜ now (bytes .exit) ≡ edit (at + slotAt count) (replicate (24 * (slots - count)) 0) (edit at (headBytes level count) (now (bytes .entry))) ⌝ }
+{
+    put_head(bytes, at, level, count);
+    let from = at + (8 + 24 * count);
+    let to = at + (8 + 24 * slots as usize);
+    layout::clear(&mut bytes[from..to]);
+}
+
+// Makes a region that of an empty bucket of a level.
+pub fn renew(region: &mut [u8], slots: u32, level: u32)
+    requires { ⌜ (length (now region) ≡ slotAt slots) × (slots ≤ 64) × (level < 256) ⌝ }
+    ensures { λ _. ⌜ now (region .exit) ≡ encode slots level [] ⌝ }
+{
+    close(region, 0, slots, level, 0);
+}
+
+// Copies a slot.
+fn copy_slot(bytes: &mut [u8], from: usize, to: usize)
+    requires { ⌜ (from + 24 ≤ length (now bytes)) × (to + 24 ≤ length (now bytes)) ⌝ }
+    ensures { λ _. ⌜ now (bytes .exit) ≡ edit to (part from 24 (now (bytes .entry))) (now (bytes .entry)) ⌝ }
+{
+    let x = layout::read8(bytes, from);
+    let y = layout::read8(bytes, from + 8);
+    let z = layout::read8(bytes, from + 16);
+    layout::put8(bytes, to, x);
+    layout::put8(bytes, to + 8, y);
+    layout::put8(bytes, to + 16, z);
+}
+
+// How many rides one ride is that may be left out.
+fn counted(kept: bool) -> usize
+    ensures { λ r. ⌜ (r ≡ cond kept 1 0) × (r ≤ 1) ⌝ }
+{
+    if kept {
+        return 1;
+    }
+    0
+}
+
+// Writes each ride of a bucket behind those that stay and, in a new region, behind those that move, and answers how
+// many stay. Either group grows without a branch.
+fn part_rides(
+    bytes: &mut [u8],
+    old: usize,
+    new: usize,
     slots: u32,
+    count: usize,
     first: u32,
     home: u32,
     level: u32,
 ) -> usize
-    requires { ⌜ Room first level × (length (now source) ≡ slotAt slots) × (count ≤ slots) × (slots ≤ 64) × (allBelow (slotUsed (now source)) count ≡ true) × (now target ≡ layOut slots level 0 []) × (length (now target) ≡ slotAt slots) ⌝ }
-    ensures { λ r. ⌜ (r ≡ length (kept (keeps first home level) (ridesFrom (now (source .entry)) 0 count))) × (now (target .exit) ≡ layOut slots level 0 (kept (keeps first home level) (ridesFrom (now (source .entry)) 0 count))) ⌝ }
+    requires { ⌜ Room first level × Halves (now bytes) slots old new count × (slots ≤ 64) ⌝ }
+    ensures { λ r. ⌜ Parted (keeps first home level) (now (bytes .entry)) slots old new count count r (now (bytes .exit)) ⌝ }
 {
-    let mut held = 0;
+    let mut stay = 0;
     let mut k = 0;
     while k < count {
-        let at = 8 + 24 * k;
-        let key = layout::read8(source, at + 2);
-        if address::hash(first, level, key) == home {
-            layout::put(target, 8 + 24 * held, &source[at..at + 24]);
-            held = held + 1;
-        }
+        let at = old + (8 + 24 * k);
+        let key = layout::read8(bytes, at + 2);
+        let kept = address::hash(first, level, key) == home;
+        copy_slot(bytes, at, new + (8 + 24 * (k - stay)));
+        copy_slot(bytes, at, old + (8 + 24 * stay));
+        stay = stay + counted(kept);
         k = k + 1;
     }
-    held
+    stay
 }
 
-// Makes a region that of a bucket with those rides of a source that belong to it at a level.
-pub fn refill(source: &[u8], target: &mut [u8], slots: u32, first: u32, home: u32, level: u32)
-    requires { ⌜ Room first level × (length (now source) ≡ slotAt slots) × (length (now target) ≡ slotAt slots) × (countOf (now source) ≤ slots) × (slots ≤ 64) × (allBelow (slotUsed (now source)) (countOf (now source)) ≡ true) ⌝ }
-    ensures { λ _. ⌜ now (target .exit) ≡ encode slots level (kept (keeps first home level) (ridesOf (now (source .entry)))) ⌝ }
+// Divides a bucket with a new one behind it: the rides that belong to it at a level stay, the others move.
+pub fn divide(
+    bytes: &mut [u8],
+    old: usize,
+    new: usize,
+    slots: u32,
+    first: u32,
+    home: u32,
+    level: u32,
+)
+    requires { ⌜ Room first level × Halves (now bytes) slots old new (countOf (part old (slotAt slots) (now bytes))) × (slots ≤ 64) ⌝ }
+    ensures { λ _. ⌜ now (bytes .exit) ≡ edit new (encode slots level (kept (λ (key : ℕ). not (keeps first home level key)) (ridesOf (part old (slotAt slots) (now (bytes .entry)))))) (edit old (encode slots level (kept (keeps first home level) (ridesOf (part old (slotAt slots) (now (bytes .entry)))))) (now (bytes .entry))) ⌝ }
 {
-    renew(target, slots, level);
-    let count = layout::read2(source, 4) as usize;
-    let held = sift(source, count, target, slots, first, home, level);
-    layout::put2(target, 4, held as u64);
+    let count = layout::read2(bytes, old + 4) as usize;
+    let stay = part_rides(bytes, old, new, slots, count, first, home, level);
+    close(bytes, old, slots, level, stay);
+    close(bytes, new, slots, level, count - stay);
 }

@@ -3,12 +3,11 @@ use address::Image;
 ghost use mathlib.Core.Path.{_≡_};
 ghost use mathlib.Core.Bool.{true, false};
 ghost use Prim.Native.Nat.{_+_, _*_, _≤_, _<_};
-ghost use lib.ListN.{length, take, set};
+ghost use lib.ListN.{length, set};
 ghost use Rattle.layout.specs.Bytes.{edit, leBytes};
-ghost use Rattle.bucket.specs.Region.{Ride, slotAt, countOf, ridesOf, keysOf, encode, kept};
-ghost use Rattle.address.specs.Rules.{keeps, newborn};
+ghost use Rattle.bucket.specs.Region.{Ride, countOf};
+ghost use Rattle.address.specs.Rules.{newborn};
 ghost use Rattle.file.specs.File.Judge.{Known};
-ghost use Rattle.file.specs.File.Split.{Refill};
 ghost use Rattle.file.specs.File.{Checked, Created, Splitted, withRide, stateOf, divided, split, fileMark, figuresFit, stateFits, headerOf, bucketsOf, mostOf, startOf, withRegion, withState, regionOf, bucketSoundIn, regionSound, lowestUnsound, check, view, create};
 
 // A file's header, read and judged; of an unsound one nothing is known.
@@ -21,6 +20,7 @@ pub struct Header {
 }
 
 // A check's reply, and the lowest unsound region with 7.
+#[repr(C)]
 pub struct CheckAnswer {
     pub reply: u32,
     pub bucket: u32,
@@ -114,32 +114,25 @@ pub fn start(slots: u32, bucket: u32) -> usize
     16 + bucket as usize * (8 + 24 * slots as usize)
 }
 
-// Whether a bucket of a file is sound; its keys are then gathered.
-pub fn bucket_sound(file: &[u8], header: Header, bucket: u32, keys: &mut [u64]) -> bool
-    requires { ⌜ Known (now file) header × (bucket < bucketsOf (now file)) × (length (now keys) ≡ 64) ⌝ }
-    ensures { λ r. ⌜ (r ≡ bucketSoundIn (now (file .entry)) bucket) × (r ≡ true → take (countOf (regionOf (now (file .entry)) bucket)) (now (keys .exit)) ≡ keysOf (ridesOf (regionOf (now (file .entry)) bucket))) ⌝ }
+// Whether a bucket of a file is sound.
+pub fn bucket_sound(file: &[u8], header: Header, bucket: u32) -> bool
+    requires { ⌜ Known (now file) header × (bucket < bucketsOf (now file)) ⌝ }
+    ensures { λ r. ⌜ r ≡ bucketSoundIn (now (file .entry)) bucket ⌝ }
 {
     let slots = header.slots;
     let at = start(slots, bucket);
     let end = at + (8 + 24 * slots as usize);
     let level = address::level_of(address::FIRST_BUCKETS, header.state, bucket);
-    bucket::judge(
-        &file[at..end],
-        slots,
-        address::FIRST_BUCKETS,
-        bucket,
-        level,
-        keys,
-    )
+    bucket::judge(&file[at..end], slots, address::FIRST_BUCKETS, bucket, level)
 }
 
 // Whether a region of a file is sound, a bucket's or one past the last bucket.
-fn region_sound(file: &[u8], header: Header, region: u32, keys: &mut [u64]) -> bool
-    requires { ⌜ Known (now file) header × (region < header .most) × (length (now keys) ≡ 64) ⌝ }
+fn region_sound(file: &[u8], header: Header, region: u32) -> bool
+    requires { ⌜ Known (now file) header × (region < header .most) ⌝ }
     ensures { λ r. ⌜ r ≡ regionSound (now (file .entry)) region ⌝ }
 {
     if region < address::buckets(address::FIRST_BUCKETS, header.state) {
-        return bucket_sound(file, header, region, keys);
+        return bucket_sound(file, header, region);
     }
     let slots = header.slots;
     let at = start(slots, region);
@@ -148,14 +141,14 @@ fn region_sound(file: &[u8], header: Header, region: u32, keys: &mut [u64]) -> b
 }
 
 // The lowest unsound region, and the number of regions if there is none.
-fn lowest_unsound(file: &[u8], header: Header, keys: &mut [u64]) -> u32
-    requires { ⌜ Known (now file) header × (length (now keys) ≡ 64) ⌝ }
+fn lowest_unsound(file: &[u8], header: Header) -> u32
+    requires { ⌜ Known (now file) header ⌝ }
     ensures { λ r. ⌜ r ≡ lowestUnsound (now (file .entry)) ⌝ }
 {
     let most = header.most;
     let mut region = 0;
     while region < most {
-        if !region_sound(file, header, region, keys) {
+        if !region_sound(file, header, region) {
             return region;
         }
         region = region + 1;
@@ -174,8 +167,7 @@ pub fn check(file: &[u8]) -> CheckAnswer
             bucket: address::NO_BUCKET,
         };
     }
-    let mut keys = [0u64; 64];
-    let lowest = lowest_unsound(file, header, &mut keys);
+    let lowest = lowest_unsound(file, header);
     if lowest < header.most {
         return CheckAnswer {
             reply: 7,
@@ -202,8 +194,7 @@ pub fn view(file: &[u8], bucket: u64) -> &[u8]
         return &file[0..0];
     }
     let number = bucket as u32;
-    let mut keys = [0u64; 64];
-    if !bucket_sound(file, header, number, &mut keys) {
+    if !bucket_sound(file, header, number) {
         return &file[0..0];
     }
     let slots = header.slots;
@@ -239,6 +230,7 @@ pub fn create(file: &mut [u8], capacity: u64, slots: u64, most: u64) -> u8
 }
 
 // A split's reply, the old bucket and the new; with 7 the unsound one.
+#[repr(C)]
 pub struct SplitAnswer {
     pub reply: u32,
     pub old_bucket: u32,
@@ -255,48 +247,26 @@ fn put_state(file: &mut [u8], state: Image)
     layout::put2(file, 4, state.pointer as u64);
 }
 
-// Makes a region that of a bucket with those rides of a source that belong to it at a level.
-fn refill_region(file: &mut [u8], source: &[u8], slots: u32, bucket: u32, level: u32)
-    requires { ⌜ Refill (now file) (now source) slots bucket level ⌝ }
-    ensures { λ _. ⌜ now (file .exit) ≡ withRegion (now (file .entry)) bucket (encode slots level (kept (keeps 1 bucket level) (ridesOf (now (source .entry))))) ⌝ }
-{
-    let at = start(slots, bucket);
-    let end = at + (8 + 24 * slots as usize);
-    bucket::refill(
-        source,
-        &mut file[at..end],
-        slots,
-        address::FIRST_BUCKETS,
-        bucket,
-        level,
-    );
-}
-
-// Divides bucket n with the new bucket, from a copy of its region, and lets the state grow.
-fn spread(file: &mut [u8], source: &[u8], header: Header, old: u32, new: u32)
-    requires { ⌜ Known (now file) header × (bucketsOf (now file) < mostOf (now file)) × (old ≡ header .state .pointer) × (new ≡ newborn 1 (header .state)) × (now source ≡ regionOf (now file) (stateOf (now file) .pointer)) × (bucketSoundIn (now file) (stateOf (now file) .pointer) ≡ true) ⌝ }
+// Divides bucket n of a file with the new bucket, and lets the state grow.
+fn divide(file: &mut [u8], header: Header, new: u32)
+    requires { ⌜ Known (now file) header × (bucketsOf (now file) < mostOf (now file)) × (new ≡ newborn 1 (header .state)) × (bucketSoundIn (now file) (header .state .pointer) ≡ true) ⌝ }
     ensures { λ _. ⌜ now (file .exit) ≡ divided (now (file .entry)) ⌝ }
 {
     let slots = header.slots;
     let state = header.state;
-    let level = state.level + 1;
-    refill_region(file, source, slots, old, level);
-    refill_region(file, source, slots, new, level);
+    let old = state.pointer;
+    let from = start(slots, old);
+    let to = start(slots, new);
+    bucket::divide(
+        file,
+        from,
+        to,
+        slots,
+        address::FIRST_BUCKETS,
+        old,
+        state.level + 1,
+    );
     put_state(file, address::grown(address::FIRST_BUCKETS, state));
-}
-
-// Divides bucket n of a file with the new bucket.
-fn divide(file: &mut [u8], header: Header, old: u32, new: u32)
-    requires { ⌜ Known (now file) header × (bucketsOf (now file) < mostOf (now file)) × (old ≡ header .state .pointer) × (new ≡ newborn 1 (header .state)) × (bucketSoundIn (now file) old ≡ true) ⌝ }
-    ensures { λ _. ⌜ now (file .exit) ≡ divided (now (file .entry)) ⌝ }
-{
-    let slots = header.slots;
-    let at = start(slots, old);
-    let size = 8 + 24 * slots as usize;
-    let end = at + size;
-    let mut copy = [0u8; 1544];
-    layout::put(&mut copy, 0, &file[at..end]);
-    spread(file, &copy[..size], header, old, new);
 }
 
 // Splits bucket n: 5, 10, 7, or both buckets' numbers.
@@ -312,8 +282,7 @@ pub fn split(file: &mut [u8]) -> SplitAnswer
         return refused_split(10, address::NO_BUCKET);
     }
     let old = state.pointer;
-    let mut keys = [0u64; 64];
-    if !bucket_sound(file, header, old, &mut keys) {
+    if !bucket_sound(file, header, old) {
         return refused_split(7, old);
     }
     let new = address::newborn(address::FIRST_BUCKETS, state);
@@ -323,7 +292,7 @@ pub fn split(file: &mut [u8]) -> SplitAnswer
     if !layout::is_zero(&file[at..end]) {
         return refused_split(7, new);
     }
-    divide(file, header, old, new);
+    divide(file, header, new);
     SplitAnswer {
         reply: 0,
         old_bucket: old,

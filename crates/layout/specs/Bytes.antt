@@ -1,5 +1,6 @@
 -- Bytes in lent memory: numbers of several bytes, marks, zeros, and what a write leaves. A list of bytes is a list of numbers below 256.
 pub mod Tests
+pub mod Apart
 pub mod Edit
 pub mod Numbers
 use Prim.Native.Nat.{ℕ, zero, suc, _+_, _*_, _/_, _%_, _<_}

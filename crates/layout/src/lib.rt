@@ -34,12 +34,12 @@ pub fn read8(bytes: &[u8], at: usize) -> u64
         + wide(bytes[at + 7]) * 72057594037927936
 }
 
-// Whether a mark stands at a place.
+// Whether a mark stands at a place: two bytes compared as one number.
 pub fn has_mark(bytes: &[u8], at: usize, mark: &[u8; 2]) -> bool
     requires { ⌜ at + 2 ≤ length (now bytes) ⌝ }
     ensures { λ r. ⌜ r ≡ marked (now (bytes .entry)) at (now (mark .entry)) ⌝ }
 {
-    (bytes[at] == mark[0]) & (bytes[at + 1] == mark[1])
+    read2(bytes, at) == wide(mark[0]) + wide(mark[1]) * 256
 }
 
 // Whether all bytes are zero. No early exit, so that many bytes are tested at a time.

@@ -88,36 +88,37 @@ routed fits file table client key answer reached =
     (cond (not (everyOn (bucketSoundIn file) way)) (record { answer = 7; block = block 7 (cut (bucketSoundIn file) way) 0 noPayload; table = table; file = file })
     reached))
 
--- Search: 0 with the payload found, or 1.
-pub search : List ℕ → List ℕ → ℕ → ℕ → List ℕ → Outcome
-search file table client key answer =
+-- A search that has reached the key's own bucket: 0 with the payload found, or 1.
+pub searched : List ℕ → List ℕ → ℕ → ℕ → Outcome
+searched file table client key =
     let way = wayOf file (imageOf table client) key in
+    let after = adjustedTable file table client key in
     let region = regionOf file (ownOf file key) in
-    routed (eqb (length answer) 24) file table client key answer
-    (cond (held file key)
-    (record {
-      answer = 0;
-      block = block 0 way 0 (rideAt region (slotOf region key) .payload);
-      table = adjustedTable file table client key;
-      file = file;
-    })
-    (record { answer = 1; block = block 1 way 0 noPayload; table = adjustedTable file table client key; file = file }))
+    cond (held file key) (record { answer = 0; block = block 0 way 0 (rideAt region (slotOf region key) .payload); table = after; file = file })
+    (record { answer = 1; block = block 1 way 0 noPayload; table = after; file = file })
 
--- Insert: 8 if the key is held, 9 if its bucket holds S records, else it is placed; the flag is 1 if more than b records are then held.
+pub search : List ℕ → List ℕ → ℕ → ℕ → List ℕ → Outcome
+search file table client key answer = routed (eqb (length answer) 24) file table client key answer (searched file table client key)
+
+-- The file with the ride placed in the key's own bucket; the flag is 1 if more than b records are then held.
 pub inserted : List ℕ → ℕ → List ℕ → List ℕ
 inserted file key payload = withRide file (ownOf file key) (record { key = key; payload = payload })
 
 pub overfull : List ℕ → ℕ → ℕ
 overfull file key = cond (ltb (capacityOf file) (suc (countOf (regionOf file (ownOf file key))))) 1 0
 
-pub insert : List ℕ → List ℕ → ℕ → ℕ → List ℕ → List ℕ → Outcome
-insert file table client key payload answer =
+-- An insert that has reached it: 8 if the key is held, 9 if its bucket holds S records, else the ride is placed.
+pub placed : List ℕ → List ℕ → ℕ → ℕ → List ℕ → Outcome
+placed file table client key payload =
     let way = wayOf file (imageOf table client) key in
     let after = adjustedTable file table client key in
-    routed (eqb (length answer) 24 && eqb (length payload) 14) file table client key answer
-    (cond (held file key) (record { answer = 8; block = block 8 way 0 noPayload; table = after; file = file })
+    cond (held file key) (record { answer = 8; block = block 8 way 0 noPayload; table = after; file = file })
     (cond (full file key) (record { answer = 9; block = block 9 way 0 noPayload; table = after; file = file })
-    (record { answer = 0; block = block 0 way (overfull file key) noPayload; table = after; file = inserted file key payload })))
+    (record { answer = 0; block = block 0 way (overfull file key) noPayload; table = after; file = inserted file key payload }))
+
+pub insert : List ℕ → List ℕ → ℕ → ℕ → List ℕ → List ℕ → Outcome
+insert file table client key payload answer =
+    routed (eqb (length answer) 24 && eqb (length payload) 14) file table client key answer (placed file table client key payload)
 
 -- Forwards are the route's buckets less one, or 0 without a route.
 pub forwardsIn : List ℕ → ℕ

@@ -6,20 +6,19 @@ ghost use mathlib.Core.Path.{_≡_};
 ghost use mathlib.Core.Bool.{true, cond};
 ghost use mathlib.Core.List.{_++_, _∷_, []};
 ghost use Prim.Native.Nat.{_+_, _*_, _≤_, _<_};
-ghost use lib.ListN.{length, take};
+ghost use lib.ListN.{length};
 ghost use lib.Dec.{ltb, eqb};
 ghost use Rattle.address.specs.Room.{ImageRoom};
 ghost use Rattle.address.specs.Rules.{Formed, NotAhead, level, adjusted};
 ghost use Rattle.client.specs.Table.{withImage};
-ghost use Rattle.bucket.specs.Region.{countOf, ridesOf, keysOf, slotOf};
+ghost use Rattle.bucket.specs.Region.{countOf, slotOf};
 ghost use Rattle.file.specs.File.{stateOf, bucketsOf, startOf, regionOf, bucketSoundIn};
 ghost use Rattle.file.specs.File.Judge.{Known};
 ghost use Rattle.layout.specs.Replies.{reply};
-ghost use Rattle.ride.specs.Call.{Outcome, search, insert, wayOf, early, noted, block, noPayload, forwardsIn};
+ghost use Rattle.ride.specs.Call.{Outcome, searched, search, placed, insert, wayOf, early, noted, block, noPayload, forwardsIn};
 ghost use Rattle.ride.specs.Call.After.{Reached};
 ghost use Rattle.ride.specs.Call.Block.{shown};
 ghost use Rattle.ride.specs.Call.Open.{Opening};
-ghost use Rattle.ride.specs.Call.Replied.{searched, placed};
 ghost use Rattle.ride.specs.Call.Route.{Walked};
 
 // The buckets that a key has met, at most three, the last of them, and whether all were sound.
@@ -79,10 +78,10 @@ fn no_walk() -> Walk
     }
 }
 
-// Walks a key's route from a client's image until a bucket keeps it or is unsound; the last bucket's keys are then gathered.
-pub fn walk_route(file: &[u8], header: Header, image: Image, key: u64, keys: &mut [u64]) -> End
-    requires { ⌜ Known (now file) header × (image .level ≤ 12) × Formed 1 image × NotAhead 1 (stateOf (now file)) image × (length (now keys) ≡ 64) ⌝ }
-    ensures { λ r. ⌜ Walked (now (file .entry)) key (wayOf (now (file .entry)) image key) (r .walk) (r .bucket) (r .sound) × (r .sound ≡ true → take (countOf (regionOf (now (file .entry)) (r .bucket))) (now (keys .exit)) ≡ keysOf (ridesOf (regionOf (now (file .entry)) (r .bucket)))) ⌝ }
+// Walks a key's route from a client's image until a bucket keeps it or is unsound.
+pub fn walk_route(file: &[u8], header: Header, image: Image, key: u64) -> End
+    requires { ⌜ Known (now file) header × (image .level ≤ 12) × Formed 1 image × NotAhead 1 (stateOf (now file)) image ⌝ }
+    ensures { λ r. ⌜ Walked (now (file .entry)) key (wayOf (now (file .entry)) image key) (r .walk) (r .bucket) (r .sound) ⌝ }
 {
     let state = header.state;
     let mut bucket = address::address(address::FIRST_BUCKETS, image, key);
@@ -94,7 +93,7 @@ pub fn walk_route(file: &[u8], header: Header, image: Image, key: u64, keys: &mu
     };
     loop {
         walk = note(walk, bucket);
-        let sound = file::bucket_sound(file, header, bucket, keys);
+        let sound = file::bucket_sound(file, header, bucket);
         let level = address::level_of(address::FIRST_BUCKETS, state, bucket);
         let fate = address::fate_at(address::FIRST_BUCKETS, sound, bucket, level, key);
         match fate {
@@ -238,17 +237,19 @@ struct Slot {
     place: usize,
 }
 
-// Looks a key up in a sound bucket whose keys were gathered.
-fn look_up(file: &[u8], header: Header, bucket: u32, key: u64, keys: &[u64]) -> Slot
-    requires { ⌜ Known (now file) header × (bucket < bucketsOf (now file)) × (bucketSoundIn (now file) bucket ≡ true) × (length (now keys) ≡ 64) × (take (countOf (regionOf (now file) bucket)) (now keys) ≡ keysOf (ridesOf (regionOf (now file) bucket))) ⌝ }
+// Looks a key up in a sound bucket.
+fn look_up(file: &[u8], header: Header, bucket: u32, key: u64) -> Slot
+    requires { ⌜ Known (now file) header × (bucket < bucketsOf (now file)) × (bucketSoundIn (now file) bucket ≡ true) ⌝ }
     ensures { λ r. ⌜ (r .at ≡ startOf (header .slots) bucket) × (r .count ≡ countOf (regionOf (now (file .entry)) bucket)) × (r .place ≡ slotOf (regionOf (now (file .entry)) bucket) key) ⌝ }
 {
-    let at = file::start(header.slots, bucket);
+    let slots = header.slots;
+    let at = file::start(slots, bucket);
+    let end = at + (8 + 24 * slots as usize);
     let count = layout::read2(file, at + 4) as usize;
     Slot {
         at,
         count,
-        place: bucket::find(keys, count, key),
+        place: bucket::find(&file[at..end], count, key),
     }
 }
 
@@ -261,14 +262,13 @@ fn finish_search(
     answer: &mut [u8],
     opened: Opened,
     end: End,
-    keys: &[u64],
 ) -> u8
-    requires { ⌜ (length (now answer) ≡ 24) × Reached (now file) (now table) client key (opened .header) (opened .image) (end .walk) (end .bucket) (now keys) ⌝ }
+    requires { ⌜ (length (now answer) ≡ 24) × Reached (now file) (now table) client key (opened .header) (opened .image) (end .walk) (end .bucket) ⌝ }
     ensures { λ r. ⌜ record { answer = r; block = now (answer .exit); table = now (table .exit); file = now (file .entry) } ≡ searched (now (file .entry)) (now (table .entry)) client key ⌝ }
 {
     let header = opened.header;
     let walk = end.walk;
-    let slot = look_up(file, header, end.bucket, key, keys);
+    let slot = look_up(file, header, end.bucket, key);
     adjust(table, client, header, opened.image, walk);
     if slot.place < slot.count {
         put_block(answer, 0, walk, 0);
@@ -294,13 +294,12 @@ pub fn search(file: &[u8], table: &mut [u8], client: u64, key: u64, answer: &mut
         put_block(answer, refused, no_walk(), 0);
         return refused;
     }
-    let mut keys = [0u64; 64];
-    let end = walk_route(file, opened.header, opened.image, key, &mut keys);
+    let end = walk_route(file, opened.header, opened.image, key);
     if !end.sound {
         put_block(answer, 7, end.walk, 0);
         return 7;
     }
-    finish_search(file, table, client, key, answer, opened, end, &keys)
+    finish_search(file, table, client, key, answer, opened, end)
 }
 
 // The flag of an insert: 1 if more rides are held than the capacity.
@@ -323,25 +322,26 @@ fn finish_insert(
     answer: &mut [u8],
     opened: Opened,
     end: End,
-    keys: &[u64],
 ) -> u8
-    requires { ⌜ (length (now answer) ≡ 24) × Reached (now file) (now table) client key (opened .header) (opened .image) (end .walk) (end .bucket) (now keys) × (length (now payload) ≡ 14) ⌝ }
+    requires { ⌜ (length (now answer) ≡ 24) × Reached (now file) (now table) client key (opened .header) (opened .image) (end .walk) (end .bucket) × (length (now payload) ≡ 14) ⌝ }
     ensures { λ r. ⌜ record { answer = r; block = now (answer .exit); table = now (table .exit); file = now (file .exit) } ≡ placed (now (file .entry)) (now (table .entry)) client key (now (payload .entry)) ⌝ }
 {
     let header = opened.header;
     let walk = end.walk;
-    let slot = look_up(file, header, end.bucket, key, keys);
+    let slot = look_up(file, header, end.bucket, key);
+    let held = slot.place < slot.count;
+    let full = header.slots as usize <= slot.count;
     adjust(table, client, header, opened.image, walk);
-    if slot.place < slot.count {
+    if held {
         put_block(answer, 8, walk, 0);
         return 8;
     }
-    if header.slots as usize <= slot.count {
+    if full {
         put_block(answer, 9, walk, 0);
         return 9;
     }
-    let held = file::place_ride(file, header, end.bucket, slot.count, key, payload);
-    put_block(answer, 0, walk, over_capacity(header.capacity, held));
+    let count = file::place_ride(file, header, end.bucket, slot.count, key, payload);
+    put_block(answer, 0, walk, over_capacity(header.capacity, count));
     0
 }
 
@@ -366,23 +366,12 @@ pub fn insert(
         put_block(answer, refused, no_walk(), 0);
         return refused;
     }
-    let mut keys = [0u64; 64];
-    let end = walk_route(file, opened.header, opened.image, key, &mut keys);
+    let end = walk_route(file, opened.header, opened.image, key);
     if !end.sound {
         put_block(answer, 7, end.walk, 0);
         return 7;
     }
-    finish_insert(
-        file,
-        table,
-        client,
-        key,
-        payload,
-        answer,
-        opened,
-        end,
-        &keys,
-    )
+    finish_insert(file, table, client, key, payload, answer, opened, end)
 }
 
 // How often the key of an answer block was sent on.

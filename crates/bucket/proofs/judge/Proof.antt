@@ -1,10 +1,9 @@
--- `bucket::judge` tests head, slots, unused bytes and keys in turn; the first that fails makes the region unsound.
+-- `bucket::judge` tests head, slots and unused bytes in turn; the first that fails makes the region unsound.
 use Prim.Native.Nat.{_≤_}
 use mathlib.Core.Path.{refl}
-use mathlib.Core.Bool.{false≢true}
 use native.Mathlib.Omega.{arith}
 use Rattle.address.specs.Rules.{keeps}
-use Rattle.bucket.specs.Region.Judge.{judged-head, judged-few, judged-slots, judged-rest, judged-all}
+use Rattle.bucket.specs.Region.Judge.{judged-head, judged-few, judged-slots, judged-rest}
 use borrow.Author.Needs.{needs}
 use Rattle.bucket.proofs.judge.Statement.{statement}
 use Rattle.bucket.proofs.judge.Tie as tie
@@ -14,25 +13,27 @@ head-sound-requires c κs = search needs
 
 returns : tie.Need-returns
 returns c =
-    let a = c .before .before .before .before .args in
-    (judged-head (a .slots) (a .level) (keeps (a .first) (a .bucket) (a .level)) (a .region .now) (c .before .head-sound .result) _ (c .before .head-sound .ensures) refl (c .if1 .taken), λ e. absurd (false≢true e))
+    let h = c .before .head-sound in
+    let a = c .before .before .before .args in
+    judged-head (a .slots) (a .level) (keeps (a .first) (a .bucket) (a .level)) (a .region .now) (h .result) _ (h .ensures) refl (c .if1 .taken)
 
 read2-requires : tie.Need-read2-requires
 read2-requires c κs = search needs
 
-gather-requires : tie.Need-gather-requires
-gather-requires c κs =
-    let a = c .before .before .before .before .before .before .args in
-    let few : c .before .read2 .result ≤ a .slots = judged-few (a .slots) (a .level) (keeps (a .first) (a .bucket) (a .level)) (a .region .now) (c .before .before .before .head-sound .result) (c .before .read2 .result) (c .before .before .before .head-sound .ensures) (c .before .read2 .ensures .0) (c .before .before .if1 .left) in
-    (c .before .before .before .before .before .before .pre .0, omega arith, omega arith, c .before .before .before .before .before .before .pre .3)
-
-same-length : tie.Need-same-length
-same-length c = search needs
+slots-sound-requires : tie.Need-slots-sound-requires
+slots-sound-requires c κs =
+    let h = c .before .before .head-sound in
+    let a = c .before .before .before .before .args in
+    let n = c .read2 in
+    let few : n .result ≤ a .slots = judged-few (a .slots) (a .level) (keeps (a .first) (a .bucket) (a .level)) (a .region .now) (h .result) (n .result) (h .ensures) (n .ensures .0) (c .before .if1 .left) in
+    (c .before .before .before .before .pre .0, omega arith, omega arith)
 
 returns-2 : tie.Need-returns-2
 returns-2 c =
-    let a = c .before .before .before .before .before .before .before .before .before .before .args in
-    (judged-slots (a .slots) (a .level) (keeps (a .first) (a .bucket) (a .level)) (a .region .now) (c .before .before .before .before .before .before .before .head-sound .result) (c .before .before .before .before .before .read2 .result) (c .before .before .before .before .before .before .before .head-sound .ensures) (c .before .before .before .before .before .read2 .ensures .0) (c .before .before .before .before .before .before .if1 .left) (c .before .before .before .gather .result) (c .before .before .before .gather .ensures .0) (c .if2 .taken), λ e. absurd (false≢true e))
+    let h = c .before .before .before .before .head-sound in
+    let a = c .before .before .before .before .before .before .args in
+    let n = c .before .before .read2 in
+    judged-slots (a .slots) (a .level) (keeps (a .first) (a .bucket) (a .level)) (a .region .now) (h .result) (n .result) (h .ensures) (n .ensures .0) (c .before .before .before .if1 .left) (c .before .slots-sound .result) (c .before .slots-sound .ensures) (c .if2 .taken)
 
 mul-rest : tie.Need-mul-rest
 mul-rest c = search needs
@@ -42,8 +43,10 @@ add-rest c = search needs
 
 sub-is-zero : tie.Need-sub-is-zero
 sub-is-zero c =
-    let a = c .before .before .before .before .before .before .before .before .before .before .args in
-    let few : c .before .before .before .before .before .read2 .result ≤ a .slots = judged-few (a .slots) (a .level) (keeps (a .first) (a .bucket) (a .level)) (a .region .now) (c .before .before .before .before .before .before .before .head-sound .result) (c .before .before .before .before .before .read2 .result) (c .before .before .before .before .before .before .before .head-sound .ensures) (c .before .before .before .before .before .read2 .ensures .0) (c .before .before .before .before .before .before .if1 .left) in
+    let h = c .before .before .before .before .head-sound in
+    let a = c .before .before .before .before .before .before .args in
+    let n = c .before .before .read2 in
+    let few : n .result ≤ a .slots = judged-few (a .slots) (a .level) (keeps (a .first) (a .bucket) (a .level)) (a .region .now) (h .result) (n .result) (h .ensures) (n .ensures .0) (c .before .before .before .if1 .left) in
     omega arith
 
 part-is-zero-start : tie.Need-part-is-zero-start
@@ -55,28 +58,13 @@ part-is-zero-end c = search needs
 is-zero-requires : tie.Need-is-zero-requires
 is-zero-requires c κs = search needs
 
-same-length-2 : tie.Need-same-length-2
-same-length-2 c = search needs
-
 returns-3 : tie.Need-returns-3
 returns-3 c =
-    let a = c .before .before .before .before .before .before .before .before .before .before .before .before .before .args in
-    (judged-rest (a .slots) (a .level) (keeps (a .first) (a .bucket) (a .level)) (a .region .now) (c .before .before .before .before .before .before .before .before .before .before .head-sound .result) (c .before .before .before .before .before .before .before .before .read2 .result) (c .before .before .before .before .before .before .before .before .before .before .head-sound .ensures) (c .before .before .before .before .before .before .before .before .read2 .ensures .0) (c .before .before .before .before .before .before .before .before .before .if1 .left) (c .before .before .before .before .before .before .gather .result) (c .before .before .before .before .before .before .gather .ensures .0) (c .before .before .before .if2 .left) (c .before .is-zero .result) (c .before .is-zero .ensures) (c .if3 .taken), λ e. absurd (false≢true e))
-
-all-differ-requires : tie.Need-all-differ-requires
-all-differ-requires c κs =
-    let a = c .before .before .before .before .before .before .before .before .before .before .before .before .before .before .args in
-    let few : c .before .before .before .before .before .before .before .before .before .read2 .result ≤ a .slots = judged-few (a .slots) (a .level) (keeps (a .first) (a .bucket) (a .level)) (a .region .now) (c .before .before .before .before .before .before .before .before .before .before .before .head-sound .result) (c .before .before .before .before .before .before .before .before .before .read2 .result) (c .before .before .before .before .before .before .before .before .before .before .before .head-sound .ensures) (c .before .before .before .before .before .before .before .before .before .read2 .ensures .0) (c .before .before .before .before .before .before .before .before .before .before .if1 .left) in
-    omega (arith, c .before .before .before .before .before .before .before .gather .kept)
-
-same-length-3 : tie.Need-same-length-3
-same-length-3 c = search needs
-
-returns-4 : tie.Need-returns-4
-returns-4 c =
-    let a = c .before .before .before .before .before .before .before .before .before .before .before .before .before .before .before .args in
-    let all = judged-all (a .slots) (a .level) (keeps (a .first) (a .bucket) (a .level)) (a .region .now) (c .before .before .before .before .before .before .before .before .before .before .before .before .head-sound .result) (c .before .before .before .before .before .before .before .before .before .before .read2 .result) (c .before .before .before .before .before .before .before .before .before .before .before .before .head-sound .ensures) (c .before .before .before .before .before .before .before .before .before .before .read2 .ensures .0) (c .before .before .before .before .before .before .before .before .before .before .before .if1 .left) (c .before .before .before .before .before .before .before .before .gather .result) (c .before .before .before .before .before .before .before .before .gather .ensures .0) (c .before .before .before .before .before .if2 .left) (c .before .before .before .is-zero .result) (c .before .before .before .is-zero .ensures) (c .before .before .if3 .left) (c .before .before .before .before .before .before .before .before .gather .last .1 .1 .1 .1 .1 .0) (c .all-differ .result) (c .before .before .before .before .before .before .before .before .gather .ensures .1) (c .all-differ .ensures) in
-    (all .0, λ e. all .1)
+    let h = c .before .before .before .before .before .before .head-sound in
+    let a = c .before .before .before .before .before .before .before .before .args in
+    let n = c .before .before .before .before .read2 in
+    let s = c .before .before .before .slots-sound in
+    judged-rest (a .slots) (a .level) (keeps (a .first) (a .bucket) (a .level)) (a .region .now) (h .result) (n .result) (h .ensures) (n .ensures .0) (c .before .before .before .before .before .if1 .left) (s .result) (s .ensures) (c .before .before .if2 .left) (c .is-zero .result) (c .is-zero .ensures)
 
 pub judge-spec : {M : Type 1} → statement M
 judge-spec =
@@ -85,8 +73,7 @@ judge-spec =
     head-sound-requires
     returns
     read2-requires
-    gather-requires
-    same-length
+    slots-sound-requires
     returns-2
     mul-rest
     add-rest
@@ -94,8 +81,4 @@ judge-spec =
     part-is-zero-start
     part-is-zero-end
     is-zero-requires
-    same-length-2
-    returns-3
-    all-differ-requires
-    same-length-3
-    returns-4)
+    returns-3)

@@ -15,9 +15,12 @@ use Rattle.layout.specs.Bytes.Numbers.{length-leBytes, leBytes-two, le-back, le
 use Rattle.bucket.specs.Region.{Ride, Whole, slotMark, slotAt, countOf, levelOf, headFormed, slotUsed, keyAt, rideAt, ridesFrom, headBytes, slotBytes, slotsBytes, layOut, encode}
 use Rattle.bucket.specs.Region.Rides.{AllWhole, whole-append}
 
-pub length-head : (j count : ℕ) → length (headBytes j count) ≡ 8
+pub head-is : (j count : ℕ) → headBytes j count ≡ 76 ∷ 66 ∷ j ∷ 0 ∷ count % 256 ∷ count / 256 % 256 ∷ 0 ∷ 0 ∷ []
 unfolding headBytes
-length-head j count = rw (leBytes-two count)
+head-is j count = rw (leBytes-two count)
+
+pub length-head : (j count : ℕ) → length (headBytes j count) ≡ 8
+length-head j count = rw (head-is j count)
 
 pub length-slot : (ride : Ride) → Whole ride → length (slotBytes ride) ≡ 24
 unfolding slotBytes

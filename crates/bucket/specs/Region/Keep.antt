@@ -17,28 +17,13 @@ use Rattle.layout.specs.Bytes.{Bytes, firstFrom}
 use Rattle.layout.specs.Bytes.Tests.{and-left, and-right, and-both, first-within, first-before, first-same}
 use Rattle.bucket.specs.Region.{Ride, Whole, slotAt, countOf, keyAt, rideAt, ridesFrom, ridesOf, keysOf, every, distinct, soundWith, bucketSound, slotOf, encode, kept}
 use Rattle.bucket.specs.Region.Rides.{AllWhole, whole-append, keys-append, every-append, distinct-append, kept-whole, kept-passes, kept-distinct, kept-lengths, kept-in, kept-ind}
+use Rattle.bucket.specs.Region.Judge.{fresh-from}
 use Rattle.bucket.specs.Region.Sound.{Parts, sound-count, sound-whole, rides-encode, encode-sound, bucket-judged, bucket-parts}
 
--- the keys of the slots, one by one
-key-at : (region : List ℕ) (k c i : ℕ) → i < c → getD (keysOf (ridesFrom region k c)) i 0 ≡ keyAt region (k + i)
-unfolding ridesFrom keysOf rideAt
-key-at region k zero i h = absurd (omega arith)
-key-at region k (suc c) zero h = ap (keyAt region) (sym (add-zero k))
-key-at region k (suc c) (suc i) h = key-at region (suc k) c i (omega arith) ∙ ap (keyAt region) moved
-  where
-    moved : suc k + i ≡ k + suc i
-    moved = omega arith
-
--- a key found among the gathered keys is found in its slot
-pub find-slot : (region keys : List ℕ) (key : ℕ) → take (countOf region) keys ≡ keysOf (ridesOf region)
-    → firstFrom (λ k. eqb (getD keys k 0) key) (countOf region) 0 ≡ slotOf region key
-unfolding slotOf ridesOf
-find-slot region keys key e = first-same (λ k. eqb (getD keys k 0) key) (λ k. eqb (keyAt region k) key) (countOf region) 0
-    (λ k low high. ap (λ (x : ℕ). eqb x key) (same k (omega arith)))
-  where
-    same : (k : ℕ) → k < countOf region → getD keys k 0 ≡ keyAt region k
-    same k h = sym (getD-take (countOf region) keys k 0 h) ∙ ap (λ (l : List ℕ). getD l k 0) e
-        ∙ key-at region 0 (countOf region) k h ∙ ap (keyAt region) (zero-add k)
+-- the slot of a key, as a search from the first slot on finds it
+pub slot-is : (region : List ℕ) (key : ℕ) → firstFrom (λ k. eqb (keyAt region k) key) (countOf region) 0 ≡ slotOf region key
+unfolding slotOf
+slot-is region key = refl
 
 -- a slot is found within the count
 pub slot-most : (region : List ℕ) (key : ℕ) → slotOf region key ≤ countOf region
@@ -46,13 +31,6 @@ unfolding slotOf
 slot-most region key = omega (arith, first-within (λ k. eqb (keyAt region k) key) (countOf region) 0)
 
 -- a key that no slot holds is fresh
-fresh-from : (region : List ℕ) (key k c : ℕ) → ((i : ℕ) → k ≤ i → i < k + c → eqb (keyAt region i) key ≡ false)
-    → every (λ other. not (eqb other key)) (keysOf (ridesFrom region k c)) ≡ true
-unfolding ridesFrom keysOf every rideAt
-fresh-from region key k zero h = refl
-fresh-from region key k (suc c) h = and-both (not (eqb (keyAt region k) key)) _ (ap not (h k (omega arith) (omega arith)))
-    (fresh-from region key (suc k) c (λ i low high. h i (omega arith) (omega arith)))
-
 pub fresh : (region : List ℕ) (key : ℕ) → slotOf region key ≡ countOf region → every (λ other. not (eqb other key)) (keysOf (ridesOf region)) ≡ true
 unfolding slotOf ridesOf
 fresh region key e = fresh-from region key 0 (countOf region)
@@ -67,7 +45,7 @@ placed-sound S j own region bytes long small sound ride whole belongs new room =
     (omega (arith, length-append (ridesOf region) (ride ∷ []), sound-count S j own region bytes long sound)) small own
     ∙ and-both _ _
     (ap (every own) (keys-append (ridesOf region) ride) ∙ every-append own (keysOf (ridesOf region)) (ride .key) ∙ and-both _ _ (sound .belong) belongs)
-    (ap distinct (keys-append (ridesOf region) ride) ∙ distinct-append (keysOf (ridesOf region)) (ride .key) (sound .single) (fresh region (ride .key) new))
+    (ap distinct (keys-append (ridesOf region) ride) ∙ distinct-append (keysOf (ridesOf region)) (ride .key) ∙ and-both _ _ (sound .single) (fresh region (ride .key) new))
   where
     all : AllWhole (ridesOf region)
     all = sound-whole S j own region bytes long sound

@@ -42,14 +42,19 @@ unfolding every
 every-same f g same [] = refl
 every-same f g same (key ∷ keys) = ap₂ _&&_ (same key) (every-same f g same keys)
 
--- a fresh key at the end leaves the keys distinct
-pub distinct-append : (keys : List ℕ) (key : ℕ) → distinct keys ≡ true → every (λ other. not (eqb other key)) keys ≡ true → distinct (keys ++ (key ∷ [])) ≡ true
+-- one key more at the end is distinct from all
+pub distinct-append : (keys : List ℕ) (key : ℕ) → distinct (keys ++ (key ∷ [])) ≡ (distinct keys && every (λ other. not (eqb other key)) keys)
 unfolding distinct every
-distinct-append [] key d fresh = refl
-distinct-append (first ∷ keys) key d fresh = and-both (every (λ other. not (eqb first other)) (keys ++ (key ∷ []))) (distinct (keys ++ (key ∷ [])))
-    (every-append (λ other. not (eqb first other)) keys key
-    ∙ and-both (every (λ other. not (eqb first other)) keys) (not (eqb first key)) (and-left _ (distinct keys) d) (and-left (not (eqb first key)) _ fresh))
-    (distinct-append keys key (and-right (every (λ other. not (eqb first other)) keys) (distinct keys) d) (and-right (not (eqb first key)) _ fresh))
+distinct-append [] key = refl
+distinct-append (first ∷ keys) key =
+    ap₂ _&&_ (every-append (λ other. not (eqb first other)) keys key) (distinct-append keys key)
+    ∙ go (every (λ other. not (eqb first other)) keys) (not (eqb first key)) (distinct keys) (every (λ other. not (eqb other key)) keys)
+  where
+    go : (a b c d : Bool) → (a && b && (c && d)) ≡ (a && c && (b && d))
+    go true true c d = refl
+    go true false true d = refl
+    go true false false d = refl
+    go false b c d = refl
 
 -- ---- what a test keeps
 

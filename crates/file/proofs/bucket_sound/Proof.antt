@@ -1,10 +1,7 @@
 -- `file::bucket_sound` judges the bucket's own region at its own level.
-use mathlib.Core.Path.{sym, ap, _∙_}
-use Prim.Native.Nat.{ℕ}
-use mathlib.Core.List.{List}
-use lib.ListN.{take}
+use mathlib.Core.Path.{ap, _∙_}
 use native.Mathlib.Omega.{arith}
-use Rattle.bucket.specs.Region.{countOf, keysOf, ridesOf, soundWith}
+use Rattle.bucket.specs.Region.{soundWith}
 use Rattle.address.specs.Rules.{keeps}
 use Rattle.file.specs.File.Region.{known-cut, known-fits, known-long, known-level, known-judged}
 use borrow.Author.Needs.{needs}
@@ -37,30 +34,27 @@ part-judge-start c = search needs
 
 part-judge-end : tie.Need-part-judge-end
 part-judge-end c =
-    let a = c .before .before .before .before .args in
-    known-fits (a .file .now) (a .header) (c .before .before .before .before .pre .0) (a .bucket) (c .before .start .result) (c .before .start .ensures .0) (omega arith)
+    let d = c .before .before .before in
+    let a = d .args in
+    known-fits (a .file .now) (a .header) (d .pre .0) (a .bucket) (c .before .start .result) (c .before .start .ensures .0) (omega arith)
 
 judge-requires : tie.Need-judge-requires
 judge-requires c κs =
-    let a = c .before .before .before .before .before .before .args in (
-      known-level (a .file .now) (a .header) (c .before .before .before .before .before .before .pre .0) (a .bucket) (c .before .before .level-of .result) (c .before .before .before .before .before .before .pre .1) (c .before .before .level-of .ensures),
-      known-long (a .file .now) (a .header) (c .before .before .before .before .before .before .pre .0) (a .bucket) (c .before .before .before .start .result) (c .before .before .before .start .ensures .0) (omega arith),
-      omega arith,
-      c .before .before .before .before .before .before .pre .2,
-    )
-
-same-length : tie.Need-same-length
-same-length c = search needs
+    let d = c .before .before .before .before in
+    let a = d .args in
+    let l = c .before .level-of in
+    let s = c .before .before .start in
+    (known-level (a .file .now) (a .header) (d .pre .0) (a .bucket) (l .result) (d .pre .1) (l .ensures), known-long (a .file .now) (a .header) (d .pre .0) (a .bucket) (s .result) (s .ensures .0) (omega arith), omega arith)
 
 returns : tie.Need-returns
 returns c =
-    let a = c .before .before .before .before .before .before .before .before .before .args in
-    let cut = known-cut (a .file .now) (a .header) (c .before .before .before .before .before .before .before .before .before .pre .0) (a .bucket) (c .before .before .before .before .before .before .start .result) (c .before .before .before .before .before .before .start .ensures .0) in (
-      c .before .before .judge .ensures .0
-          ∙ ap (soundWith (a .header .slots) (c .before .before .before .before .before .level-of .result) (keeps 1 (a .bucket) (c .before .before .before .before .before .level-of .result))) cut
-          ∙ known-judged (a .file .now) (a .header) (c .before .before .before .before .before .before .before .before .before .pre .0) (a .bucket) (c .before .before .before .before .before .level-of .result) (c .before .before .before .before .before .before .before .before .before .pre .1) (c .before .before .before .before .before .level-of .ensures),
-      λ e. ap (λ (r : List ℕ). take (countOf r) (c .before .before .judge .last .1 .1 .1 .1 .1 .0)) (sym cut) ∙ c .before .before .judge .ensures .1 e ∙ ap (λ (r : List ℕ). keysOf (ridesOf r)) cut,
-    )
+    let d = c .before .before .before .before .before in
+    let a = d .args in
+    let l = c .before .before .level-of in
+    let s = c .before .before .before .start in
+    c .judge .ensures
+    ∙ ap (soundWith (a .header .slots) (l .result) (keeps 1 (a .bucket) (l .result))) (known-cut (a .file .now) (a .header) (d .pre .0) (a .bucket) (s .result) (s .ensures .0))
+    ∙ known-judged (a .file .now) (a .header) (d .pre .0) (a .bucket) (l .result) (d .pre .1) (l .ensures)
 
 pub bucket-sound-spec : {M : Type 1} → statement M
 bucket-sound-spec =
@@ -76,5 +70,4 @@ bucket-sound-spec =
     part-judge-start
     part-judge-end
     judge-requires
-    same-length
     returns)

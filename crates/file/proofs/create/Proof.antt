@@ -62,7 +62,10 @@ cast-renew c =
     omega (arith, fits .few-slots)
 
 renew-requires : tie.Need-renew-requires
-renew-requires c κs = search needs
+renew-requires c κs =
+    let a = c .before .before .before .before .before .before .before .before .before .before .before .before .args in
+    let fits = figures _ (a .capacity) (a .slots) (a .most) (sym (c .before .before .before .before .before .before .before .before .before .before .figures-fit .ensures) ∙ not-false _ (c .before .before .before .before .before .before .before .before .before .if1 .left)) in
+    (search needs, fits .few-slots, omega arith)
 
 same-length : tie.Need-same-length
 same-length c = search needs

@@ -1,91 +1,74 @@
--- `file::divide` copies the old region, from which both regions are then refilled.
-use mathlib.Core.Path.{sym, ap, _∙_}
+-- `file::divide` divides the two regions and writes the grown state: the divided file.
+use Prim.Native.Nat.{ℕ, _+_}
+use mathlib.Core.Path.{refl, ap, _∙_}
 use native.Mathlib.Omega.{arith}
-use lib.Seq.{length-take-le}
-use Rattle.file.specs.File.{regionOf, bucketSoundIn}
-use Rattle.file.specs.File.Split.{number, old-exists, copied}
-use Rattle.file.specs.File.Region.{known-cut, known-fits, known-long}
+use Rattle.address.specs.declared.Image.{Image}
+use Rattle.layout.specs.Bytes.{Bytes}
+use Rattle.file.specs.File.{withState}
+use Rattle.file.specs.File.Split.{old-exists, new-next, split-halves, split-written, grown-small}
 use borrow.Author.Needs.{needs}
 use Rattle.file.proofs.divide.Statement.{statement}
 use Rattle.file.proofs.divide.Tie as tie
 
 start-requires : tie.Need-start-requires
 start-requires c κs =
-    let a = c .before .args in
-    (omega arith, omega (arith, old-exists (a .file .now) (a .header) (c .before .pre .0) (c .before .pre .1) (a .old) (a .new) (c .before .pre .2) (c .before .pre .3)))
+    let d = c .before .before in
+    let a = d .args in
+    (omega arith, omega (arith, old-exists (a .file .now) (a .header) (d .pre .0) (d .pre .1) (a .header .state .pointer) (a .new) refl (d .pre .2), d .pre .1, d .pre .0 .ranges .figured .few-buckets))
 
-cast-size : tie.Need-cast-size
-cast-size c = search needs
+start-requires-2 : tie.Need-start-requires-2
+start-requires-2 c κs =
+    let d = c .before .before .before in
+    let a = d .args in
+    (omega arith, omega (arith, new-next (a .file .now) (a .header) (d .pre .0) (d .pre .1) (a .header .state .pointer) (a .new) refl (d .pre .2), d .pre .1, d .pre .0 .ranges .figured .few-buckets))
 
-mul-size : tie.Need-mul-size
-mul-size c = search needs
+add-divide : tie.Need-add-divide
+add-divide c = search needs
 
-add-size : tie.Need-add-size
-add-size c = search needs
+divide-requires : tie.Need-divide-requires
+divide-requires c κs =
+    let d = c .before .before .before .before .before .before in
+    let a = d .args in
+    let from = c .before .before .before .start in
+    let to = c .before .before .start2 in
+    let bytes : Bytes (a .file .now) = λ (k : ℕ). c .before .before .before .before .before .slice-known .given k .fits in
+    (record { some = omega arith; few = omega arith; low = omega (arith, d .pre .0 .room .levels .low) }, split-halves (a .file .now) bytes (a .header) (d .pre .0) (d .pre .1) (d .pre .3) (a .new) (d .pre .2) (from .result) (to .result) (from .ensures .0) (to .ensures .0), omega arith)
 
-add-end : tie.Need-add-end
-add-end c = search needs
+grown-requires : tie.Need-grown-requires
+grown-requires c κs = search needs
 
-slice-aggregate-put : tie.Need-slice-aggregate-put
-slice-aggregate-put c = search needs
-
-sub-put : tie.Need-sub-put
-sub-put c = search needs
-
-part-put-start : tie.Need-part-put-start
-part-put-start c = search needs
-
-part-put-end : tie.Need-part-put-end
-part-put-end c =
-    let a = c .before .before .before .before .args in
-    known-fits (a .file .now) (a .header) (c .before .before .before .before .pre .0) (a .old) (c .before .before .start .result) (c .before .before .start .ensures .0) (omega (arith, old-exists (a .file .now) (a .header) (c .before .before .before .before .pre .0) (c .before .before .before .before .pre .1) (a .old) (a .new) (c .before .before .before .before .pre .2) (c .before .before .before .before .pre .3), c .before .before .before .before .pre .1))
-
-put-requires : tie.Need-put-requires
-put-requires c κs = search needs
-
-array-share-prefix-copy : tie.Need-array-share-prefix-copy
-array-share-prefix-copy c = search needs
-
-slice-aggregate-spread : tie.Need-slice-aggregate-spread
-slice-aggregate-spread c =
-    let a = c .before .before .before .before .before .before .before .before .before .args in
-    sym (length-take-le _ (c .before .before .before .put .last .0) (omega (arith, c .before .before .before .put .kept)))
-
-spread-requires : tie.Need-spread-requires
-spread-requires c κs =
-    let a = c .before .before .before .before .before .before .before .before .before .args in
-    let same = number (a .file .now) (a .header) (c .before .before .before .before .before .before .before .before .before .pre .0) (c .before .before .before .before .before .before .before .before .before .pre .1) (a .old) (a .new) (c .before .before .before .before .before .before .before .before .before .pre .2) (c .before .before .before .before .before .before .before .before .before .pre .3) in
-    let cut = known-cut (a .file .now) (a .header) (c .before .before .before .before .before .before .before .before .before .pre .0) (a .old) (c .before .before .before .before .before .before .before .start .result) (c .before .before .before .before .before .before .before .start .ensures .0) in (
-      c .before .before .before .before .before .before .before .before .before .pre .0,
-      c .before .before .before .before .before .before .before .before .before .pre .1,
-      c .before .before .before .before .before .before .before .before .before .pre .2,
-      c .before .before .before .before .before .before .before .before .before .pre .3,
-      copied (c .before .before .before .put .last .0) _ _ _ (c .before .before .before .put .ensures) (known-long (a .file .now) (a .header) (c .before .before .before .before .before .before .before .before .before .pre .0) (a .old) (c .before .before .before .before .before .before .before .start .result) (c .before .before .before .before .before .before .before .start .ensures .0) (omega (arith, old-exists (a .file .now) (a .header) (c .before .before .before .before .before .before .before .before .before .pre .0) (c .before .before .before .before .before .before .before .before .before .pre .1) (a .old) (a .new) (c .before .before .before .before .before .before .before .before .before .pre .2) (c .before .before .before .before .before .before .before .before .before .pre .3), c .before .before .before .before .before .before .before .before .before .pre .1))) (omega arith) ∙ cut ∙ ap (regionOf (a .file .now)) same,
-      ap (bucketSoundIn (a .file .now)) (sym same) ∙ c .before .before .before .before .before .before .before .before .before .pre .4,
+put-state-requires : tie.Need-put-state-requires
+put-state-requires c κs =
+    let d = c .before .before .before .before .before .before .before .before .before .before .before in
+    let a = d .args in
+    let small = grown-small (a .file .now) (a .header) (d .pre .0) (d .pre .1) in (
+      omega (arith, c .before .before .before .before .divide .kept, d .pre .0 .ranges .figured .whole),
+      omega (arith, small, ap (λ (s : Image). s .level) (c .grown .ensures)),
+      omega (arith, small, ap (λ (s : Image). s .pointer) (c .grown .ensures)),
     )
 
 same-length : tie.Need-same-length
 same-length c = search needs
 
 returns : tie.Need-returns
-returns c = search needs
+returns c =
+    let d = c .before .before .before .before .before .before .before .before .before .before .before .before .before .before in
+    let a = d .args in
+    let from = c .before .before .before .before .before .before .before .before .before .before .before .start in
+    let to = c .before .before .before .before .before .before .before .before .before .before .start2 in
+    let bytes : Bytes (a .file .now) = λ (k : ℕ). c .before .before .before .before .before .before .before .before .before .before .before .before .before .slice-known .given k .fits in
+    split-written (a .file .now) bytes (a .header) (d .pre .0) (d .pre .1) (d .pre .3) (a .new) (d .pre .2) (from .result) (to .result) (from .ensures .0) (to .ensures .0) (a .header .state .level + 1) (c .before .before .before .before .before .before .before .divide .last .0) (c .before .before .put-state .last .0) refl (c .before .before .before .before .before .before .before .divide .ensures)
+    (c .before .before .put-state .ensures ∙ ap (withState (c .before .before .before .before .before .before .before .divide .last .0)) (c .before .before .before .grown .ensures))
 
 pub divide-spec : {M : Type 1} → statement M
 divide-spec =
     tie.close
     (tie.spec
     start-requires
-    cast-size
-    mul-size
-    add-size
-    add-end
-    slice-aggregate-put
-    sub-put
-    part-put-start
-    part-put-end
-    put-requires
-    array-share-prefix-copy
-    slice-aggregate-spread
-    spread-requires
+    start-requires-2
+    add-divide
+    divide-requires
+    grown-requires
+    put-state-requires
     same-length
     returns)

@@ -12,16 +12,15 @@ buckets-requires c κs = search needs
 
 bucket-sound-requires : tie.Need-bucket-sound-requires
 bucket-sound-requires c κs =
-    let a = c .before .before .before .before .before .args in
-    (c .before .before .before .before .before .pre .0, omega (arith, buckets-known (a .file .now) (a .header) (c .before .before .before .before .before .pre .0) (c .before .before .buckets .result) (c .before .before .buckets .ensures)), c .before .before .before .before .before .pre .2)
-
-same-length : tie.Need-same-length
-same-length c = search needs
+    let d = c .before .before .before in
+    let a = d .args in
+    (d .pre .0, omega (arith, buckets-known (a .file .now) (a .header) (d .pre .0) (c .before .buckets .result) (c .before .buckets .ensures)))
 
 returns : tie.Need-returns
 returns c =
-    let a = c .before .before .before .before .before .before .before .before .args in
-    c .before .before .bucket-sound .ensures .0 ∙ sym (region-bucket (a .file .now) (a .region) (omega (arith, buckets-known (a .file .now) (a .header) (c .before .before .before .before .before .before .before .before .pre .0) (c .before .before .before .before .before .buckets .result) (c .before .before .before .before .before .buckets .ensures))))
+    let d = c .before .before .before .before in
+    let a = d .args in
+    c .bucket-sound .ensures ∙ sym (region-bucket (a .file .now) (a .region) (omega (arith, buckets-known (a .file .now) (a .header) (d .pre .0) (c .before .before .buckets .result) (c .before .before .buckets .ensures))))
 
 start-requires : tie.Need-start-requires
 start-requires c κs = search needs
@@ -46,16 +45,19 @@ part-is-zero-start c = search needs
 
 part-is-zero-end : tie.Need-part-is-zero-end
 part-is-zero-end c =
-    let a = c .before .before .before .before .before .args in
-    known-fits (a .file .now) (a .header) (c .before .before .before .before .before .pre .0) (a .region) (c .start .result) (c .start .ensures .0) (omega arith)
+    let d = c .before .before .before .before in
+    let a = d .args in
+    known-fits (a .file .now) (a .header) (d .pre .0) (a .region) (c .start .result) (c .start .ensures .0) (omega arith)
 
 is-zero-requires : tie.Need-is-zero-requires
 is-zero-requires c κs = search needs
 
 returns-2 : tie.Need-returns-2
 returns-2 c =
-    let a = c .before .before .before .before .before .before .before .args in
-    c .is-zero .ensures ∙ ap allZero (known-cut (a .file .now) (a .header) (c .before .before .before .before .before .before .before .pre .0) (a .region) (c .before .before .start .result) (c .before .before .start .ensures .0)) ∙ sym (region-past (a .file .now) (a .region) (omega (arith, buckets-known (a .file .now) (a .header) (c .before .before .before .before .before .before .before .pre .0) (c .before .before .before .before .buckets .result) (c .before .before .before .before .buckets .ensures))))
+    let d = c .before .before .before .before .before .before in
+    let a = d .args in
+    c .is-zero .ensures ∙ ap allZero (known-cut (a .file .now) (a .header) (d .pre .0) (a .region) (c .before .before .start .result) (c .before .before .start .ensures .0))
+    ∙ sym (region-past (a .file .now) (a .region) (omega (arith, buckets-known (a .file .now) (a .header) (d .pre .0) (c .before .before .before .before .buckets .result) (c .before .before .before .before .buckets .ensures))))
 
 pub region-sound-spec : {M : Type 1} → statement M
 region-sound-spec =
@@ -63,7 +65,6 @@ region-sound-spec =
     (tie.spec
     buckets-requires
     bucket-sound-requires
-    same-length
     returns
     start-requires
     cast-end

@@ -155,13 +155,18 @@ sound-few file a h = bucket-few firstBuckets (stateOf file) (slotsOf file) a (re
 pub count-in : (file : List ℕ) (a : ℕ) → countOf (regionOf file a) ≡ leAt 2 file (startOf (slotsOf file) a + 4)
 count-in file a = ap (λ (r : List ℕ). leAt 2 r 4) (region-is file a) ∙ le-part 2 file (startOf (slotsOf file) a) (slotAt (slotsOf file)) 4 (omega arith)
 
+-- the count read at a region's place is the region's
+pub known-count : (file : List ℕ) (header : Header) → Known file header → (a at : ℕ) → at ≡ startOf (header .slots) a → (n : ℕ) → n ≡ leAt 2 file (at + 4)
+    → n ≡ countOf (regionOf file a)
+known-count file header seen a at ea n en = en ∙ ap (λ (p : ℕ). leAt 2 file (p + 4)) (ea ∙ ap (λ (S : ℕ). startOf S a) (seen .slots)) ∙ sym (count-in file a)
+
 module _ (file : List ℕ) (header : Header) (seen : Known file header) (a at n : ℕ) (ea : at ≡ startOf (header .slots) a) (en : n ≡ leAt 2 file (at + 4))
     (exists : a < bucketsOf file) (sound : bucketSoundIn file a ≡ true) where
   placed : at ≡ startOf (slotsOf file) a
   placed = ea ∙ ap (λ (S : ℕ). startOf S a) (seen .slots)
 
   counted : n ≡ countOf (regionOf file a)
-  counted = en ∙ ap (λ (p : ℕ). leAt 2 file (p + 4)) placed ∙ sym (count-in file a)
+  counted = known-count file header seen a at ea n en
 
   pub view-fits : at + 8 + 24 * n ≤ length file
   view-fits = omega (arith, known-fits file header seen a at ea (omega (arith, seen .ranges .few)), counted, sound-few file a sound, seen .slots)

@@ -1,33 +1,33 @@
 -- A split: the rides that move are just those that belong to the new bucket, and the writes in turn are the divided file.
 use Prim.Native.Nat.{ℕ, suc, _+_, _≤_, _<_}
-use mathlib.Core.Path.{_≡_, sym, ap, ap₂, _∙_}
-use mathlib.Core.Bool.{true, false, not}
+use mathlib.Core.Path.{_≡_, refl, sym, ap, ap₂, _∙_}
+use mathlib.Core.Bool.{Bool, true, false, not}
 use mathlib.Core.List.{List}
 use mathlib.Core.Logic.{⊎-elim}
 use native.Mathlib.Numerals.{add-one}
 use native.Mathlib.Omega.{arith}
 use borrow.Author.Tests.{eqb-true, le-leb, lt-leb}
 use lib.Dec.{eqb}
-use lib.ListN.{length, take}
+use lib.ListN.{length}
 use Rattle.address.specs.Limits.{firstBuckets, noBucket}
 use Rattle.address.specs.declared.Image.{Image}
 use Rattle.address.specs.Rules.{Formed, address, level, keeps, newborn, grown}
 use Rattle.address.specs.Rules.Hash.{span-pos}
 use Rattle.address.specs.Rules.Cases.{keeps-yes, keeps-no, newborn-is}
-use Rattle.address.specs.Room.{Room}
 use Rattle.address.specs.Rules.Grow.{divided-cases, newborn-next, grown-formed, grown-buckets}
-use Rattle.layout.specs.Bytes.{Bytes, allBelow, allZero, edit}
-use Rattle.layout.specs.Bytes.Edit.{part-front, part-edit}
-use Rattle.bucket.specs.Region.{Ride, slotAt, countOf, slotUsed, ridesOf, keysOf, every, encode, kept}
+use Rattle.layout.specs.Bytes.{Bytes, allZero, edit, part}
+use Rattle.layout.specs.Bytes.Edit.{part-bytes}
+use Rattle.bucket.specs.Region.{Ride, slotAt, countOf, ridesOf, keysOf, every, encode, kept}
+use Rattle.bucket.specs.Region.Divide.{Halves}
 use Rattle.bucket.specs.Region.Sound.{Parts, sound-whole, sound-count}
 use Rattle.bucket.specs.Region.Rides.{kept-whole, kept-lengths}
 use Rattle.bucket.specs.Region.Encode.{length-encode}
 use Rattle.bucket.specs.Region.Keep.{kept-agree}
 use Rattle.file.specs.declared.Header.{Header}
-use Rattle.file.specs.File.{mostOf, slotsOf, stateOf, bucketsOf, headerSound, regionOf, bucketSoundIn, withRegion, withState, staying, divided, Splitted, split}
-use Rattle.file.specs.File.Judge.{Ranges, Known, buckets-of, header-ranges, state-small}
-use Rattle.file.specs.File.Region.{region-fits, length-region}
-use Rattle.file.specs.File.Write.{with-slots, with-sound, with-most, bucket-shown}
+use Rattle.file.specs.File.{mostOf, slotsOf, stateOf, bucketsOf, headerSound, startOf, regionOf, bucketSoundIn, withRegion, withState, staying, divided, Splitted, split}
+use Rattle.file.specs.File.Judge.{Known, buckets-of, state-small}
+use Rattle.file.specs.File.Region.{region-is, region-apart, region-fits, length-region}
+use Rattle.file.specs.File.Write.{with-slots, bucket-shown}
 
 -- of the keys of bucket n, those whose h_{i+1} is not n are those that belong to the new bucket
 pub moves : (s : Image) → Formed firstBuckets s → (rides : List Ride) → every (λ key. eqb (address firstBuckets s key) (s .pointer)) (keysOf rides) ≡ true
@@ -48,16 +48,6 @@ moves s formed rides all = kept-agree (λ key. eqb (address firstBuckets s key) 
         ∙ sym (ap not (keeps-no firstBuckets (s .pointer) (suc (s .level)) key (λ h. apart (sym e ∙ h)))))
         (divided-cases firstBuckets (omega arith) s formed key (eqb-true (address firstBuckets s key) (s .pointer) own))
 
--- what it takes to refill a region from a copy of another
-pub record Refill (file source : List ℕ) (slots bucket j : ℕ) : Type 0 where
-  pub same-slots : slots ≡ slotsOf file
-  pub ranges : Ranges file
-  pub there : bucket < mostOf file
-  pub room : Room firstBuckets j
-  pub long : length source ≡ slotAt slots
-  pub few : countOf source ≤ slots
-  pub used : allBelow (slotUsed source) (countOf source) ≡ true
-
 -- where the two buckets of a split lie
 module _ (file : List ℕ) (header : Header) (seen : Known file header) (more : bucketsOf file < mostOf file) (old new : ℕ)
     (eo : old ≡ header .state .pointer) (en : new ≡ newborn firstBuckets (header .state)) where
@@ -74,57 +64,6 @@ module _ (file : List ℕ) (header : Header) (seen : Known file header) (more : 
   unfolding bucketsOf
   new-next = born ∙ newborn-next firstBuckets (omega arith) (stateOf file) (seen .ranges .formed)
 
--- a copy of a region is read as the region
-pub copied : (copy source base : List ℕ) (n : ℕ) → copy ≡ edit 0 source base → length source ≡ n → n ≤ length base → take n copy ≡ source
-copied copy source base n e long room =
-    ap₂ take (sym long) e ∙ sym (part-front (length source) (edit 0 source base)) ∙ part-edit 0 source base (omega arith)
-
-module _ (file : List ℕ) (header : Header) (seen : Known file header) (source : List ℕ) (bytes : Bytes source) (es : source ≡ regionOf file (stateOf file .pointer))
-    (sound : bucketSoundIn file (stateOf file .pointer) ≡ true) (more : bucketsOf file < mostOf file) (old new : ℕ)
-    (eo : old ≡ header .state .pointer) (en : new ≡ newborn firstBuckets (header .state)) where
-  exists : old < bucketsOf file
-  exists = old-exists file header seen more old new eo en
-
-  shown : Parts (slotsOf file) (level firstBuckets (stateOf file) (stateOf file .pointer)) (λ key. eqb (address firstBuckets (stateOf file) key) (stateOf file .pointer)) source
-  shown = rw es (bucket-shown file (stateOf file .pointer) sound)
-
-  source-long : length source ≡ slotAt (slotsOf file)
-  source-long = ap length es ∙ length-region file (stateOf file .pointer) (region-fits file (seen .ranges) (stateOf file .pointer) (omega (arith, number file header seen more old new eo en, exists)))
-
-  pub refill-one : Refill file source (header .slots) old (header .state .level + 1)
-  refill-one = record {
-    same-slots = seen .slots;
-    ranges = seen .ranges;
-    there = omega (arith, exists);
-    room = record { some = omega arith; few = omega arith; low = omega (arith, seen .room .levels .low) };
-    long = source-long ∙ ap slotAt (sym (seen .slots));
-    few = omega (arith, shown .few, seen .slots);
-    used = shown .used;
-  }
-
-  module _ (one : List ℕ) (j : ℕ) (e1 : one ≡ withRegion file old (encode (header .slots) j (kept (keeps firstBuckets old j) (ridesOf source)))) where
-    first : List ℕ
-    first = encode (header .slots) j (kept (keeps firstBuckets old j) (ridesOf source))
-
-    first-long : length first ≡ slotAt (slotsOf file)
-    unfolding first
-    first-long = length-encode (header .slots) j (kept (keeps firstBuckets old j) (ridesOf source))
-        (kept-whole (keeps firstBuckets old j) (ridesOf source) (sound-whole _ _ _ source bytes source-long shown))
-        (omega (arith, kept-lengths (keeps firstBuckets old j) (ridesOf source), sound-count _ _ _ source bytes source-long shown, shown .few, seen .slots))
-        ∙ ap slotAt (seen .slots)
-
-    pub refill-two : Refill one source (header .slots) new (header .state .level + 1)
-    unfolding first
-    refill-two = record {
-      same-slots = seen .slots ∙ sym (ap slotsOf e1 ∙ with-slots file (seen .ranges) old (omega (arith, exists)) first first-long);
-      ranges = header-ranges one (ap headerSound e1 ∙ with-sound file (seen .ranges) old (omega (arith, exists)) first first-long ∙ seen .sound);
-      there = omega (arith, new-next file header seen more old new eo en, ap mostOf e1, with-most file (seen .ranges) old (omega (arith, exists)) first first-long);
-      room = refill-one .room;
-      long = refill-one .long;
-      few = refill-one .few;
-      used = refill-one .used;
-    }
-
 -- the state that a split leaves is small
 pub grown-small : (file : List ℕ) (header : Header) → Known file header → bucketsOf file < mostOf file
     → (grown firstBuckets (header .state) .level ≤ 12) × (grown firstBuckets (header .state) .pointer ≤ 4096)
@@ -133,42 +72,104 @@ grown-small file header seen more = rw (seen .state) (state-small (grown firstBu
     (grown-formed firstBuckets (omega arith) (stateOf file) (seen .ranges .formed))
     (omega (arith, grown-buckets firstBuckets (omega arith) (stateOf file) (seen .ranges .formed))))
 
--- the writes in turn
-module _ (file : List ℕ) (header : Header) (seen : Known file header) (source : List ℕ) (es : source ≡ regionOf file (stateOf file .pointer))
-    (sound : bucketSoundIn file (stateOf file .pointer) ≡ true) where
-  pub split-written : (one two three : List ℕ) (old new j : ℕ) → old ≡ header .state .pointer → new ≡ newborn firstBuckets (header .state) → j ≡ header .state .level + 1
-      → one ≡ withRegion file old (encode (header .slots) j (kept (keeps firstBuckets old j) (ridesOf source)))
-      → two ≡ withRegion one new (encode (header .slots) j (kept (keeps firstBuckets new j) (ridesOf source)))
+-- the two regions of a split, one before the other, and what is written
+module _ (file : List ℕ) (bytes : Bytes file) (header : Header) (seen : Known file header) (more : bucketsOf file < mostOf file)
+    (sound : bucketSoundIn file (header .state .pointer) ≡ true) (new : ℕ) (en : new ≡ newborn firstBuckets (header .state))
+    (from to : ℕ) (ef : from ≡ startOf (header .slots) (header .state .pointer)) (et : to ≡ startOf (header .slots) new) where
+  old : ℕ
+  old = header .state .pointer
+
+  old-in : old < bucketsOf file
+  unfolding old
+  old-in = old-exists file header seen more (header .state .pointer) new refl en
+
+  new-is : new ≡ bucketsOf file
+  new-is = new-next file header seen more (header .state .pointer) new refl en
+
+  from-is : from ≡ startOf (slotsOf file) old
+  unfolding old
+  from-is = ef ∙ ap (λ (S : ℕ). startOf S old) (seen .slots)
+
+  to-is : to ≡ startOf (slotsOf file) new
+  to-is = et ∙ ap (λ (S : ℕ). startOf S new) (seen .slots)
+
+  source : part from (slotAt (header .slots)) file ≡ regionOf file old
+  source = ap₂ (λ (p S : ℕ). part p (slotAt S) file) from-is (seen .slots) ∙ sym (region-is file old)
+
+  shown : Parts (slotsOf file) (level firstBuckets (stateOf file) old) (λ key. eqb (address firstBuckets (stateOf file) key) old) (regionOf file old)
+  unfolding old
+  shown = bucket-shown file old sound
+
+  pub split-halves : Halves file (header .slots) from to (countOf (part from (slotAt (header .slots)) file))
+  split-halves = record {
+    bytes = bytes;
+    apart = omega (arith, from-is, to-is, seen .slots, region-apart (slotsOf file) old new (omega (arith, old-in, new-is)));
+    fits = omega (arith, to-is, seen .slots, region-fits file (seen .ranges) new (omega (arith, new-is)));
+    few = omega (arith, ap countOf source, shown .few, seen .slots);
+    used = rw source (shown .used);
+  }
+
+  pointer : header .state .pointer ≡ stateOf file .pointer
+  pointer = ap (λ (s : Image). s .pointer) (seen .state)
+
+  cut : part from (slotAt (header .slots)) file ≡ regionOf file (stateOf file .pointer)
+  unfolding old
+  cut = source ∙ ap (regionOf file) pointer
+
+  -- the old bucket's bytes, and where both are written
+  staying-bytes : List ℕ
+  staying-bytes = encode (slotsOf file) (suc (stateOf file .level))
+      (kept (keeps firstBuckets (stateOf file .pointer) (suc (stateOf file .level))) (ridesOf (regionOf file (stateOf file .pointer))))
+
+  staying-long : length staying-bytes ≡ slotAt (slotsOf file)
+  unfolding staying-bytes old
+  staying-long = length-encode (slotsOf file) (suc (stateOf file .level)) _
+      (kept-whole test (ridesOf region) (sound-whole _ _ _ region region-bytes region-long parts))
+      (omega (arith, kept-lengths test (ridesOf region), sound-count _ _ _ region region-bytes region-long parts, parts .few))
+    where
+      region : List ℕ
+      region = regionOf file (stateOf file .pointer)
+
+      test : ℕ → Bool
+      test = keeps firstBuckets (stateOf file .pointer) (suc (stateOf file .level))
+
+      here : stateOf file .pointer < mostOf file
+      here = omega (arith, old-in, pointer)
+
+      region-bytes : Bytes region
+      region-bytes = rw (region-is file (stateOf file .pointer)) (part-bytes _ _ file (region-fits file (seen .ranges) (stateOf file .pointer) here) bytes)
+
+      region-long : length region ≡ slotAt (slotsOf file)
+      region-long = length-region file (stateOf file .pointer) (region-fits file (seen .ranges) (stateOf file .pointer) here)
+
+      parts : Parts (slotsOf file) (level firstBuckets (stateOf file) (stateOf file .pointer)) (λ key. eqb (address firstBuckets (stateOf file) key) (stateOf file .pointer)) region
+      parts = bucket-shown file (stateOf file .pointer) (ap (bucketSoundIn file) (sym pointer) ∙ sound)
+
+  from-there : from ≡ startOf (slotsOf file) (stateOf file .pointer)
+  unfolding old
+  from-there = from-is ∙ ap (startOf (slotsOf file)) pointer
+
+  to-there : to ≡ startOf (slotsOf (withRegion file (stateOf file .pointer) staying-bytes)) (newborn firstBuckets (stateOf file))
+  unfolding old
+  to-there = to-is ∙ ap₂ startOf (sym (with-slots file (seen .ranges) (stateOf file .pointer) (omega (arith, old-in, pointer)) staying-bytes staying-long)) (en ∙ ap (newborn firstBuckets) (seen .state))
+
+  pub split-written : (j : ℕ) (two three : List ℕ) → j ≡ header .state .level + 1
+      → two ≡ edit to (encode (header .slots) j (kept (λ key. not (keeps firstBuckets (header .state .pointer) j key)) (ridesOf (part from (slotAt (header .slots)) file))))
+      (edit from (encode (header .slots) j (kept (keeps firstBuckets (header .state .pointer) j) (ridesOf (part from (slotAt (header .slots)) file)))) file)
       → three ≡ withState two (grown firstBuckets (header .state))
       → three ≡ divided file
-  unfolding divided staying
-  split-written one two three old new j eo en ej e1 e2 e3 = e3 ∙ (λ i. withState (second i) (grown firstBuckets (seen .state i)))
+  unfolding divided staying withRegion staying-bytes
+  split-written j two three ej e2 e3 = e3 ∙ ap₂ withState (e2 ∙ written) (ap (grown firstBuckets) (seen .state))
     where
-      number : old ≡ stateOf file .pointer
-      number = eo ∙ ap (λ (s : Image). s .pointer) (seen .state)
-
-      born : new ≡ newborn firstBuckets (stateOf file)
-      born = en ∙ ap (newborn firstBuckets) (seen .state)
-
       up : j ≡ suc (stateOf file .level)
       up = ej ∙ add-one (header .state .level) ∙ ap (λ (s : Image). suc (s .level)) (seen .state)
 
-      first : one ≡ withRegion file (stateOf file .pointer)
-          (encode (slotsOf file) (suc (stateOf file .level)) (kept (keeps firstBuckets (stateOf file .pointer) (suc (stateOf file .level))) (ridesOf (regionOf file (stateOf file .pointer)))))
-      first = e1 ∙ (λ i. withRegion file (number i) (encode (seen .slots i) (up i) (kept (keeps firstBuckets (number i) (up i)) (ridesOf (es i)))))
-
-      moved : encode (header .slots) j (kept (keeps firstBuckets new j) (ridesOf source))
-          ≡ encode (slotsOf file) (suc (stateOf file .level))
-          (kept (λ key. not (keeps firstBuckets (stateOf file .pointer) (suc (stateOf file .level)) key)) (ridesOf (regionOf file (stateOf file .pointer))))
-      moved = (λ i. encode (seen .slots i) (up i) (kept (keeps firstBuckets (born i) (up i)) (ridesOf (es i))))
-          ∙ ap (encode (slotsOf file) (suc (stateOf file .level)))
-          (moves (stateOf file) (seen .ranges .formed) (ridesOf (regionOf file (stateOf file .pointer))) (bucket-shown file (stateOf file .pointer) sound .belong))
-
-      second : two ≡ withRegion (withRegion file (stateOf file .pointer)
-          (encode (slotsOf file) (suc (stateOf file .level)) (kept (keeps firstBuckets (stateOf file .pointer) (suc (stateOf file .level))) (ridesOf (regionOf file (stateOf file .pointer))))))
-          (newborn firstBuckets (stateOf file)) (encode (slotsOf file) (suc (stateOf file .level))
+      written : edit to (encode (header .slots) j (kept (λ key. not (keeps firstBuckets (header .state .pointer) j key)) (ridesOf (part from (slotAt (header .slots)) file))))
+          (edit from (encode (header .slots) j (kept (keeps firstBuckets (header .state .pointer) j) (ridesOf (part from (slotAt (header .slots)) file)))) file)
+          ≡ withRegion (withRegion file (stateOf file .pointer) staying-bytes) (newborn firstBuckets (stateOf file)) (encode (slotsOf file) (suc (stateOf file .level))
           (kept (λ key. not (keeps firstBuckets (stateOf file .pointer) (suc (stateOf file .level)) key)) (ridesOf (regionOf file (stateOf file .pointer)))))
-      second = e2 ∙ (λ i. withRegion (first i) (born i) (moved i))
+      written = λ i. edit (to-there i) (encode (seen .slots i) (up i) (kept (λ key. not (keeps firstBuckets (pointer i) (up i) key)) (ridesOf (cut i))))
+          (edit (from-there i) (encode (seen .slots i) (up i) (kept (keeps firstBuckets (pointer i) (up i)) (ridesOf (cut i)))) file)
 
 -- split, by its cases
 module _ (file : List ℕ) where

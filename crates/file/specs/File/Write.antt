@@ -13,6 +13,7 @@ use lib.Seq.{drop-drop}
 use Rattle.address.specs.Limits.{firstBuckets}
 use Rattle.address.specs.declared.Image.{Image}
 use Rattle.layout.specs.Bytes.{Bytes, leAt, leBytes, marked, allZero, edit, part}
+use Rattle.layout.specs.Bytes.Apart.{lent}
 use Rattle.layout.specs.Bytes.Edit.{length-edit, edit-before, edit-in, edit-after, part-edit, part-before, part-after, part-at, part-is, same-bytes, edit-is, edit-bytes, part-bytes}
 use Rattle.layout.specs.Bytes.Tests.{and-left, and-both}
 use Rattle.layout.specs.Bytes.Numbers.{le-same, le-back, length-leBytes}
@@ -119,11 +120,7 @@ module _ (file : List ℕ) (seen : Ranges file) (a : ℕ) (there : a < mostOf fi
 pub with-lent : (file region : List ℕ) (a at n : ℕ) → at ≡ startOf (slotsOf file) a → n ≡ length region
     → take at file ++ (region ++ drop n (drop at file)) ≡ withRegion file a region
 unfolding withRegion
-with-lent file region a at n ea en =
-    sym (append-assoc (take at file) region (drop n (drop at file)))
-    ∙ ap (λ (l : List ℕ). take at file ++ region ++ l) (drop-drop n at file ∙ ap (λ (m : ℕ). drop (at + m) file) en)
-    ∙ sym (edit-is at region file)
-    ∙ ap (λ (p : ℕ). edit p region file) ea
+with-lent file region a at n ea en = lent at n region file en ∙ ap (λ (p : ℕ). edit p region file) ea
 
 -- ---- a state, written
 

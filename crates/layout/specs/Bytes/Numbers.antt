@@ -1,10 +1,15 @@
 -- Numbers of several bytes: read after written, written after read, and read past a write. Each goes byte by byte.
 use Prim.Native.Nat.{ℕ, zero, suc, _+_, _*_, _-_, _/_, _%_, _^_, _≤_, _<_}
 use mathlib.Core.Path.{_≡_, refl, sym, ap, ap₂, _∙_}
+use mathlib.Core.Bool.{_&&_}
 use mathlib.Core.List.{List, [], _∷_, _++_}
+use mathlib.Core.Logic.{by-cases}
+use native.Mathlib.Decide.{ℕ-discrete}
 use native.Mathlib.Nat.{add-zero, zero-add, add-suc, suc-add, add-assoc, pow-suc}
 use native.Mathlib.Numerals.{add-one, add-two, add-three, add-four, add-five, add-six, add-seven}
 use native.Mathlib.Omega.{arith}
+use borrow.Author.Tests.{eq-eqb, ne-eqb}
+use lib.Dec.{eqb}
 use lib.ListN.{length, getD, drop}
 use lib.Seq.{drop-cons, getD-drop, getD-append-add}
 use Rattle.layout.specs.Bytes.{Bytes, leAt, leBytes, part}
@@ -97,3 +102,11 @@ le-seam n ps xs at e = sym (le-same n xs (ps ++ xs) 0 at (λ k h. ap (λ (i : �
 -- a number in a part
 pub le-part : (n : ℕ) (xs : List ℕ) (s m at : ℕ) → at + n ≤ m → leAt n (part s m xs) at ≡ leAt n xs (s + at)
 le-part n xs s m at h = le-same n (part s m xs) xs at (s + at) (λ k l. part-at s m xs (at + k) (omega arith) ∙ ap (λ (i : ℕ). getD xs i 0) (sym (add-assoc s at k)))
+
+-- two bytes are another two exactly if their numbers are equal
+pub two-same : (x y p q : ℕ) → x < 256 → p < 256 → eqb (x + y * 256) (p + q * 256) ≡ (eqb x p && eqb y q)
+two-same x y p q low high = by-cases (ℕ-discrete x p)
+    (λ e. by-cases (ℕ-discrete y q)
+    (λ f. rw (eq-eqb (x + y * 256) (p + q * 256) (omega (arith, e, f)), eq-eqb x p e, eq-eqb y q f))
+    (λ f. rw (ne-eqb (x + y * 256) (p + q * 256) (omega (arith, e, f)), eq-eqb x p e, ne-eqb y q f)))
+    (λ e. rw (ne-eqb (x + y * 256) (p + q * 256) (omega (arith, e)), ne-eqb x p e))

@@ -1,6 +1,6 @@
 -- `ride::finish_search` looks the key up, adjusts the image and writes the block, with the payload where the key is held.
-use mathlib.Core.Path.{refl, sym, ap, _∙_}
 use Prim.Native.Nat.{ℕ, _+_, _*_, _<_}
+use mathlib.Core.Path.{refl, sym, ap, _∙_}
 use native.Mathlib.Omega.{arith}
 use borrow.Author.Tests.{lt-ltb, le-ltb}
 use Rattle.bucket.specs.Region.{rideAt, slotOf}
@@ -8,7 +8,7 @@ use Rattle.layout.specs.Bytes.{edit}
 use Rattle.file.specs.File.{slotsOf, regionOf}
 use Rattle.file.specs.File.Region.{sound-few}
 use Rattle.ride.specs.Call.{noted}
-use Rattle.ride.specs.Call.After.{reached-way, reached-own, reached-small, reached-first, reached-table, payload-cut}
+use Rattle.ride.specs.Call.After.{arrived, payload-cut}
 use Rattle.ride.specs.Call.Block.{block-payload}
 use Rattle.ride.specs.Call.Replied.{held-is, search-found, search-absent}
 use borrow.Author.Needs.{needs}
@@ -17,45 +17,55 @@ use Rattle.ride.proofs.finish_search.Tie as tie
 
 look-up-requires : tie.Need-look-up-requires
 look-up-requires c κs =
-    let a = c .before .before .before .before .before .before .args in
-    ((c .before .before .before .before .before .before .pre .1 .opened .known), c .before .before .before .before .before .before .pre .1 .ended .there, c .before .before .before .before .before .before .pre .1 .ended .good refl, c .before .before .before .before .before .before .pre .1 .long, c .before .before .before .before .before .before .pre .1 .gathered)
+    let r = c .before .before .before .before .before .pre .1 in
+    (r .opened .known, r .ended .there, r .ended .good refl)
 
 adjust-requires : tie.Need-adjust-requires
 adjust-requires c κs =
-    let a = c .before .before .before .before .before .before .before .before .args in
-    let small = reached-small (a .file .now) (a .table .now) (a .client) (a .key) (a .opened .header) (a .opened .image) (a .end .walk) (a .end .bucket) (a .keys .now) (c .before .before .before .before .before .before .before .before .pre .1) in
-    (c .before .before .before .before .before .before .before .before .pre .1 .opened .there, (c .before .before .before .before .before .before .before .before .pre .1 .opened .known) .room, reached-first (a .file .now) (a .table .now) (a .client) (a .key) (a .opened .header) (a .opened .image) (a .end .walk) (a .end .bucket) (a .keys .now) (c .before .before .before .before .before .before .before .before .pre .1), omega (arith, small), omega (arith, small))
+    let b = c .before .before .before .before .before .before .before in
+    let a = b .args in
+    let r = b .pre .1 in
+    let y = arrived (a .file .now) (a .table .now) (a .client) (a .key) (a .opened .header) (a .opened .image) (a .end .walk) (a .end .bucket) r in
+    (r .opened .there, r .opened .known .room, y .first, omega (arith, y .low), omega (arith, y .near))
 
 put-block-requires : tie.Need-put-block-requires
 put-block-requires c κs = search needs
 
 mul-from : tie.Need-mul-from
 mul-from c =
-    let a = c .before .before .before .before .before .before .before .before .before .before .before .before .before .before .before .before .before .before .args in
-    let low : c .before .before .before .before .before .before .before .before .before .before .before .look-up .result .place < slotsOf (a .file .now) =
-    omega (arith, c .before .before .before .before .before .before .before .before .before .before .before .look-up .ensures .1, sound-few (a .file .now) (a .end .bucket) (c .before .before .before .before .before .before .before .before .before .before .before .before .before .before .before .before .before .before .pre .1 .ended .good refl), c .before .before .before .before .before .if1 .taken) in
-    omega (arith, (c .before .before .before .before .before .before .before .before .before .before .before .before .before .before .before .before .before .before .pre .1 .opened .known) .ranges .figured .few-slots)
+    let b = c .before .before .before .before .before .before .before .before .before .before .before .before .before .before .before .before .before in
+    let a = b .args in
+    let r = b .pre .1 in
+    let u = c .before .before .before .before .before .before .before .before .before .before .before .look-up in
+    let low : u .result .place < slotsOf (a .file .now) = omega (arith, u .ensures .1, sound-few (a .file .now) (a .end .bucket) (r .ended .good refl), c .before .before .before .before .before .if1 .taken) in
+    omega (arith, low, r .opened .known .ranges .figured .few-slots)
 
 add-from : tie.Need-add-from
 add-from c =
-    let a = c .before .before .before .before .before .before .before .before .before .before .before .before .before .before .before .before .before .before .args in
-    let low : c .before .before .before .before .before .before .before .before .before .before .before .look-up .result .place < slotsOf (a .file .now) =
-    omega (arith, c .before .before .before .before .before .before .before .before .before .before .before .look-up .ensures .1, sound-few (a .file .now) (a .end .bucket) (c .before .before .before .before .before .before .before .before .before .before .before .before .before .before .before .before .before .before .pre .1 .ended .good refl), c .before .before .before .before .before .if1 .taken) in
-    omega (arith, (c .before .before .before .before .before .before .before .before .before .before .before .before .before .before .before .before .before .before .pre .1 .opened .known) .ranges .figured .few-slots)
+    let b = c .before .before .before .before .before .before .before .before .before .before .before .before .before .before .before .before .before in
+    let a = b .args in
+    let r = b .pre .1 in
+    let u = c .before .before .before .before .before .before .before .before .before .before .before .look-up in
+    let low : u .result .place < slotsOf (a .file .now) = omega (arith, u .ensures .1, sound-few (a .file .now) (a .end .bucket) (r .ended .good refl), c .before .before .before .before .before .if1 .taken) in
+    omega (arith, low, r .opened .known .ranges .figured .few-slots)
 
 add-from-2 : tie.Need-add-from-2
 add-from-2 c =
-    let a = c .before .before .before .before .before .before .before .before .before .before .before .before .before .before .before .before .before .before .before .args in
-    let low : c .before .before .before .before .before .before .before .before .before .before .before .before .look-up .result .place < slotsOf (a .file .now) =
-    omega (arith, c .before .before .before .before .before .before .before .before .before .before .before .before .look-up .ensures .1, sound-few (a .file .now) (a .end .bucket) (c .before .before .before .before .before .before .before .before .before .before .before .before .before .before .before .before .before .before .before .pre .1 .ended .good refl), c .before .before .before .before .before .before .if1 .taken) in
-    omega (arith, payload-cut (a .file .now) (a .opened .header) (c .before .before .before .before .before .before .before .before .before .before .before .before .before .before .before .before .before .before .before .pre .1 .opened .known) (a .end .bucket) (c .before .before .before .before .before .before .before .before .before .before .before .before .look-up .result .at) (c .before .before .before .before .before .before .before .before .before .before .before .before .look-up .result .place) (c .before .before .before .before .before .before .before .before .before .before .before .before .look-up .result .at + (18 + 24 * c .before .before .before .before .before .before .before .before .before .before .before .before .look-up .result .place)) (omega (arith, c .before .before .before .before .before .before .before .before .before .before .before .before .before .before .before .before .before .before .before .pre .1 .ended .there, (c .before .before .before .before .before .before .before .before .before .before .before .before .before .before .before .before .before .before .before .pre .1 .opened .known) .ranges .few)) (c .before .before .before .before .before .before .before .before .before .before .before .before .look-up .ensures .0) low refl)
+    let b = c .before .before .before .before .before .before .before .before .before .before .before .before .before .before .before .before .before .before in
+    let a = b .args in
+    let r = b .pre .1 in
+    let u = c .before .before .before .before .before .before .before .before .before .before .before .before .look-up in
+    let low : u .result .place < slotsOf (a .file .now) = omega (arith, u .ensures .1, sound-few (a .file .now) (a .end .bucket) (r .ended .good refl), c .before .before .before .before .before .before .if1 .taken) in
+    omega (arith, payload-cut (a .file .now) (a .opened .header) (r .opened .known) (a .end .bucket) (u .result .at) (u .result .place) (u .result .at + (18 + 24 * u .result .place)) (omega (arith, r .ended .there, r .opened .known .ranges .few)) (u .ensures .0) low refl)
 
 add-to : tie.Need-add-to
 add-to c =
-    let a = c .before .before .before .before .before .before .before .before .before .before .before .before .before .before .before .before .before .before .before .args in
-    let low : c .before .before .before .before .before .before .before .before .before .before .before .before .look-up .result .place < slotsOf (a .file .now) =
-    omega (arith, c .before .before .before .before .before .before .before .before .before .before .before .before .look-up .ensures .1, sound-few (a .file .now) (a .end .bucket) (c .before .before .before .before .before .before .before .before .before .before .before .before .before .before .before .before .before .before .before .pre .1 .ended .good refl), c .before .before .before .before .before .before .if1 .taken) in
-    omega (arith, payload-cut (a .file .now) (a .opened .header) (c .before .before .before .before .before .before .before .before .before .before .before .before .before .before .before .before .before .before .before .pre .1 .opened .known) (a .end .bucket) (c .before .before .before .before .before .before .before .before .before .before .before .before .look-up .result .at) (c .before .before .before .before .before .before .before .before .before .before .before .before .look-up .result .place) (c .before .before .before .before .before .before .before .before .before .before .before .before .look-up .result .at + (18 + 24 * c .before .before .before .before .before .before .before .before .before .before .before .before .look-up .result .place)) (omega (arith, c .before .before .before .before .before .before .before .before .before .before .before .before .before .before .before .before .before .before .before .pre .1 .ended .there, (c .before .before .before .before .before .before .before .before .before .before .before .before .before .before .before .before .before .before .before .pre .1 .opened .known) .ranges .few)) (c .before .before .before .before .before .before .before .before .before .before .before .before .look-up .ensures .0) low refl)
+    let b = c .before .before .before .before .before .before .before .before .before .before .before .before .before .before .before .before .before .before in
+    let a = b .args in
+    let r = b .pre .1 in
+    let u = c .before .before .before .before .before .before .before .before .before .before .before .before .look-up in
+    let low : u .result .place < slotsOf (a .file .now) = omega (arith, u .ensures .1, sound-few (a .file .now) (a .end .bucket) (r .ended .good refl), c .before .before .before .before .before .before .if1 .taken) in
+    omega (arith, payload-cut (a .file .now) (a .opened .header) (r .opened .known) (a .end .bucket) (u .result .at) (u .result .place) (u .result .at + (18 + 24 * u .result .place)) (omega (arith, r .ended .there, r .opened .known .ranges .few)) (u .ensures .0) low refl)
 
 sub-put : tie.Need-sub-put
 sub-put c = search needs
@@ -65,10 +75,12 @@ part-put-start c = search needs
 
 part-put-end : tie.Need-part-put-end
 part-put-end c =
-    let a = c .before .before .before .before .before .before .before .before .before .before .before .before .before .before .before .before .before .before .before .before .args in
-    let low : c .before .before .before .before .before .before .before .before .before .before .before .before .before .look-up .result .place < slotsOf (a .file .now) =
-    omega (arith, c .before .before .before .before .before .before .before .before .before .before .before .before .before .look-up .ensures .1, sound-few (a .file .now) (a .end .bucket) (c .before .before .before .before .before .before .before .before .before .before .before .before .before .before .before .before .before .before .before .before .pre .1 .ended .good refl), c .before .before .before .before .before .before .before .if1 .taken) in
-    payload-cut (a .file .now) (a .opened .header) (c .before .before .before .before .before .before .before .before .before .before .before .before .before .before .before .before .before .before .before .before .pre .1 .opened .known) (a .end .bucket) (c .before .before .before .before .before .before .before .before .before .before .before .before .before .look-up .result .at) (c .before .before .before .before .before .before .before .before .before .before .before .before .before .look-up .result .place) (c .before .before .before .before .before .before .before .before .before .before .before .before .before .look-up .result .at + (18 + 24 * c .before .before .before .before .before .before .before .before .before .before .before .before .before .look-up .result .place)) (omega (arith, c .before .before .before .before .before .before .before .before .before .before .before .before .before .before .before .before .before .before .before .before .pre .1 .ended .there, (c .before .before .before .before .before .before .before .before .before .before .before .before .before .before .before .before .before .before .before .before .pre .1 .opened .known) .ranges .few)) (c .before .before .before .before .before .before .before .before .before .before .before .before .before .look-up .ensures .0) low refl .1
+    let b = c .before .before .before .before .before .before .before .before .before .before .before .before .before .before .before .before .before .before .before in
+    let a = b .args in
+    let r = b .pre .1 in
+    let u = c .before .before .before .before .before .before .before .before .before .before .before .before .before .look-up in
+    let low : u .result .place < slotsOf (a .file .now) = omega (arith, u .ensures .1, sound-few (a .file .now) (a .end .bucket) (r .ended .good refl), c .before .before .before .before .before .before .before .if1 .taken) in
+    payload-cut (a .file .now) (a .opened .header) (r .opened .known) (a .end .bucket) (u .result .at) (u .result .place) (u .result .at + (18 + 24 * u .result .place)) (omega (arith, r .ended .there, r .opened .known .ranges .few)) (u .ensures .0) low refl .1
 
 put-requires : tie.Need-put-requires
 put-requires c κs = search needs
@@ -81,16 +93,18 @@ same-length-2 c = search needs
 
 returns : tie.Need-returns
 returns c =
-    let a = c .before .before .before .before .before .before .before .before .before .before .before .before .before .before .before .before .before .before .before .before .before .before .before .before .args in
-    let low : c .before .before .before .before .before .before .before .before .before .before .before .before .before .before .before .before .before .look-up .result .place < slotsOf (a .file .now) =
-    omega (arith, c .before .before .before .before .before .before .before .before .before .before .before .before .before .before .before .before .before .look-up .ensures .1, sound-few (a .file .now) (a .end .bucket) (c .before .before .before .before .before .before .before .before .before .before .before .before .before .before .before .before .before .before .before .before .before .before .before .before .pre .1 .ended .good refl), c .before .before .before .before .before .before .before .before .before .before .before .if1 .taken) in
-    let cut = payload-cut (a .file .now) (a .opened .header) (c .before .before .before .before .before .before .before .before .before .before .before .before .before .before .before .before .before .before .before .before .before .before .before .before .pre .1 .opened .known) (a .end .bucket) (c .before .before .before .before .before .before .before .before .before .before .before .before .before .before .before .before .before .look-up .result .at) (c .before .before .before .before .before .before .before .before .before .before .before .before .before .before .before .before .before .look-up .result .place) (c .before .before .before .before .before .before .before .before .before .before .before .before .before .before .before .before .before .look-up .result .at + (18 + 24 * c .before .before .before .before .before .before .before .before .before .before .before .before .before .before .before .before .before .look-up .result .place)) (omega (arith, c .before .before .before .before .before .before .before .before .before .before .before .before .before .before .before .before .before .before .before .before .before .before .before .before .pre .1 .ended .there, (c .before .before .before .before .before .before .before .before .before .before .before .before .before .before .before .before .before .before .before .before .before .before .before .before .pre .1 .opened .known) .ranges .few)) (c .before .before .before .before .before .before .before .before .before .before .before .before .before .before .before .before .before .look-up .ensures .0) low refl .0 in
-    let own = reached-own (a .file .now) (a .table .now) (a .client) (a .key) (a .opened .header) (a .opened .image) (a .end .walk) (a .end .bucket) (a .keys .now) (c .before .before .before .before .before .before .before .before .before .before .before .before .before .before .before .before .before .before .before .before .before .before .before .before .pre .1) in
-    search-found (a .file .now) (a .table .now) (a .client) (a .key) (noted (a .end .walk)) (c .before .before .put .last .0) (c .before .before .before .before .before .before .before .before .before .before .before .before .before .before .before .adjust .last .0) (reached-way (a .file .now) (a .table .now) (a .client) (a .key) (a .opened .header) (a .opened .image) (a .end .walk) (a .end .bucket) (a .keys .now) (c .before .before .before .before .before .before .before .before .before .before .before .before .before .before .before .before .before .before .before .before .before .before .before .before .pre .1))
-    (reached-table (a .file .now) (a .table .now) (a .client) (a .key) (a .opened .header) (a .opened .image) (a .end .walk) (a .end .bucket) (a .keys .now) (c .before .before .before .before .before .before .before .before .before .before .before .before .before .before .before .before .before .before .before .before .before .before .before .before .pre .1) (c .before .before .before .before .before .before .before .before .before .before .before .before .before .before .before .adjust .last .0) (c .before .before .before .before .before .before .before .before .before .before .before .before .before .before .before .adjust .ensures))
-    (sym (held-is (a .file .now) (a .key) (a .end .bucket) (reached-own (a .file .now) (a .table .now) (a .client) (a .key) (a .opened .header) (a .opened .image) (a .end .walk) (a .end .bucket) (a .keys .now) (c .before .before .before .before .before .before .before .before .before .before .before .before .before .before .before .before .before .before .before .before .before .before .before .before .pre .1)) (c .before .before .before .before .before .before .before .before .before .before .before .before .before .before .before .before .before .look-up .result .place) (c .before .before .before .before .before .before .before .before .before .before .before .before .before .before .before .before .before .look-up .result .count) (c .before .before .before .before .before .before .before .before .before .before .before .before .before .before .before .before .before .look-up .ensures .2) (c .before .before .before .before .before .before .before .before .before .before .before .before .before .before .before .before .before .look-up .ensures .1)) ∙ lt-ltb _ _ (c .before .before .before .before .before .before .before .before .before .before .before .if1 .taken)) _
-    (cut ∙ ap (λ (k : ℕ). rideAt (regionOf (a .file .now) (a .end .bucket)) k .payload) (c .before .before .before .before .before .before .before .before .before .before .before .before .before .before .before .before .before .look-up .ensures .2) ∙ ap (λ (x : ℕ). rideAt (regionOf (a .file .now) x) (slotOf (regionOf (a .file .now) x) (a .key)) .payload) own)
-    (c .before .before .put .ensures ∙ ap (edit 10 _) (c .before .before .before .before .before .before .before .before .before .put-block .ensures) ∙ block-payload 0 0 (noted (a .end .walk)) _ (payload-cut (a .file .now) (a .opened .header) (c .before .before .before .before .before .before .before .before .before .before .before .before .before .before .before .before .before .before .before .before .before .before .before .before .pre .1 .opened .known) (a .end .bucket) (c .before .before .before .before .before .before .before .before .before .before .before .before .before .before .before .before .before .look-up .result .at) (c .before .before .before .before .before .before .before .before .before .before .before .before .before .before .before .before .before .look-up .result .place) (c .before .before .before .before .before .before .before .before .before .before .before .before .before .before .before .before .before .look-up .result .at + (18 + 24 * c .before .before .before .before .before .before .before .before .before .before .before .before .before .before .before .before .before .look-up .result .place)) (omega (arith, c .before .before .before .before .before .before .before .before .before .before .before .before .before .before .before .before .before .before .before .before .before .before .before .before .pre .1 .ended .there, (c .before .before .before .before .before .before .before .before .before .before .before .before .before .before .before .before .before .before .before .before .before .before .before .before .pre .1 .opened .known) .ranges .few)) (c .before .before .before .before .before .before .before .before .before .before .before .before .before .before .before .before .before .look-up .ensures .0) low refl .2))
+    let b = c .before .before .before .before .before .before .before .before .before .before .before .before .before .before .before .before .before .before .before .before .before .before .before in
+    let a = b .args in
+    let r = b .pre .1 in
+    let u = c .before .before .before .before .before .before .before .before .before .before .before .before .before .before .before .before .before .look-up in
+    let low : u .result .place < slotsOf (a .file .now) = omega (arith, u .ensures .1, sound-few (a .file .now) (a .end .bucket) (r .ended .good refl), c .before .before .before .before .before .before .before .before .before .before .before .if1 .taken) in
+    let y = arrived (a .file .now) (a .table .now) (a .client) (a .key) (a .opened .header) (a .opened .image) (a .end .walk) (a .end .bucket) r in
+    let cut = payload-cut (a .file .now) (a .opened .header) (r .opened .known) (a .end .bucket) (u .result .at) (u .result .place) (u .result .at + (18 + 24 * u .result .place)) (omega (arith, r .ended .there, r .opened .known .ranges .few)) (u .ensures .0) low refl in
+    search-found (a .file .now) (a .table .now) (a .client) (a .key) (noted (a .end .walk)) (c .before .before .put .last .0) (c .before .before .before .before .before .before .before .before .before .before .before .before .before .before .before .adjust .last .0) (y .way) (y .written (c .before .before .before .before .before .before .before .before .before .before .before .before .before .before .before .adjust .last .0) (c .before .before .before .before .before .before .before .before .before .before .before .before .before .before .before .adjust .ensures))
+    (sym (held-is (a .file .now) (a .key) (a .end .bucket) (y .own) (u .result .place) (u .result .count) (u .ensures .2) (u .ensures .1)) ∙ lt-ltb _ _ (c .before .before .before .before .before .before .before .before .before .before .before .if1 .taken)) _
+    (cut .0 ∙ ap (λ (k : ℕ). rideAt (regionOf (a .file .now) (a .end .bucket)) k .payload) (u .ensures .2)
+    ∙ ap (λ (x : ℕ). rideAt (regionOf (a .file .now) x) (slotOf (regionOf (a .file .now) x) (a .key)) .payload) (y .own))
+    (c .before .before .put .ensures ∙ ap (edit 10 _) (c .before .before .before .before .before .before .before .before .before .put-block .ensures) ∙ block-payload 0 0 (noted (a .end .walk)) _ (cut .2))
 
 put-block-requires-2 : tie.Need-put-block-requires-2
 put-block-requires-2 c κs = search needs
@@ -103,10 +117,13 @@ same-length-4 c = search needs
 
 returns-2 : tie.Need-returns-2
 returns-2 c =
-    let a = c .before .before .before .before .before .before .before .before .before .before .before .before .before .before .before .before .before .args in
-    search-absent (a .file .now) (a .table .now) (a .client) (a .key) (noted (a .end .walk)) (c .before .before .put-block2 .last .0) (c .before .before .before .before .before .before .before .before .adjust .last .0) (reached-way (a .file .now) (a .table .now) (a .client) (a .key) (a .opened .header) (a .opened .image) (a .end .walk) (a .end .bucket) (a .keys .now) (c .before .before .before .before .before .before .before .before .before .before .before .before .before .before .before .before .before .pre .1))
-    (reached-table (a .file .now) (a .table .now) (a .client) (a .key) (a .opened .header) (a .opened .image) (a .end .walk) (a .end .bucket) (a .keys .now) (c .before .before .before .before .before .before .before .before .before .before .before .before .before .before .before .before .before .pre .1) (c .before .before .before .before .before .before .before .before .adjust .last .0) (c .before .before .before .before .before .before .before .before .adjust .ensures))
-    (sym (held-is (a .file .now) (a .key) (a .end .bucket) (reached-own (a .file .now) (a .table .now) (a .client) (a .key) (a .opened .header) (a .opened .image) (a .end .walk) (a .end .bucket) (a .keys .now) (c .before .before .before .before .before .before .before .before .before .before .before .before .before .before .before .before .before .pre .1)) (c .before .before .before .before .before .before .before .before .before .before .look-up .result .place) (c .before .before .before .before .before .before .before .before .before .before .look-up .result .count) (c .before .before .before .before .before .before .before .before .before .before .look-up .ensures .2) (c .before .before .before .before .before .before .before .before .before .before .look-up .ensures .1)) ∙ le-ltb _ _ (c .before .before .before .before .if1 .left)) (c .before .before .put-block2 .ensures)
+    let b = c .before .before .before .before .before .before .before .before .before .before .before .before .before .before .before .before in
+    let a = b .args in
+    let r = b .pre .1 in
+    let u = c .before .before .before .before .before .before .before .before .before .before .look-up in
+    let y = arrived (a .file .now) (a .table .now) (a .client) (a .key) (a .opened .header) (a .opened .image) (a .end .walk) (a .end .bucket) r in
+    search-absent (a .file .now) (a .table .now) (a .client) (a .key) (noted (a .end .walk)) (c .before .before .put-block2 .last .0) (c .before .before .before .before .before .before .before .before .adjust .last .0) (y .way) (y .written (c .before .before .before .before .before .before .before .before .adjust .last .0) (c .before .before .before .before .before .before .before .before .adjust .ensures))
+    (sym (held-is (a .file .now) (a .key) (a .end .bucket) (y .own) (u .result .place) (u .result .count) (u .ensures .2) (u .ensures .1)) ∙ le-ltb _ _ (c .before .before .before .before .if1 .left)) (c .before .before .put-block2 .ensures)
 
 pub finish-search-spec : {M : Type 1} → statement M
 finish-search-spec =

@@ -1,20 +1,20 @@
 -- `ride::insert` refuses in the replies' order, walks the route, and finishes at the key's own bucket.
-use mathlib.Core.Path.{refl, sym, ap, subst, _∙_}
 use Prim.Native.Nat.{ℕ}
+use mathlib.Core.Path.{sym, ap, subst, _∙_}
 use mathlib.Core.Bool.{Bool, true, false}
 use mathlib.Core.List.{List}
-use lib.Dec.{eqb}
-use lib.ListN.{length}
 use native.Mathlib.Omega.{arith}
 use borrow.Author.Tests.{not-true, not-false, eqb-true}
+use lib.Dec.{eqb}
+use lib.ListN.{length}
 use Rattle.layout.specs.Bytes.Tests.{and-left, and-right}
 use Rattle.address.specs.declared.Image.{Image}
-use Rattle.ride.specs.declared.Walk.{Walk}
 use Rattle.file.specs.File.{bucketSoundIn}
-use Rattle.ride.specs.Call.{block, noPayload, noted, wayOf, everyOn, cut}
+use Rattle.ride.specs.declared.Walk.{Walk}
+use Rattle.ride.specs.Call.{placed, block, noPayload, noted, wayOf, everyOn, cut}
 use Rattle.ride.specs.Call.Block.{noted-none}
 use Rattle.ride.specs.Call.Route.{Walked}
-use Rattle.ride.specs.Call.Replied.{placed, insert-is, routed-block, routed-early, routed-stopped, routed-reached}
+use Rattle.ride.specs.Call.Replied.{insert-is, routed-block, routed-early, routed-stopped, routed-reached}
 use borrow.Author.Needs.{needs}
 use Rattle.ride.proofs.insert.Statement.{statement}
 use Rattle.ride.proofs.insert.Tie as tie
@@ -31,9 +31,7 @@ no-walk-requires : tie.Need-no-walk-requires
 no-walk-requires c κs = search needs
 
 put-block-requires : tie.Need-put-block-requires
-put-block-requires c κs =
-    let a = c .before .before .before .before .before .before .before .before .before .before .before .args in
-    (eqb-true _ 24 (and-left _ _ (not-false _ (c .before .before .before .before .before .before .if1 .left))), omega (arith, ap (λ (w : Walk). w .count) (c .no-walk .ensures)))
+put-block-requires c κs = (eqb-true _ 24 (and-left _ _ (not-false _ (c .before .before .before .before .before .before .if1 .left))), omega (arith, ap (λ (w : Walk). w .count) (c .no-walk .ensures)))
 
 same-length : tie.Need-same-length
 same-length c = search needs
@@ -47,28 +45,24 @@ same-length-3 c = search needs
 returns-2 : tie.Need-returns-2
 returns-2 c =
     let a = c .before .before .before .before .before .before .before .before .before .before .before .before .before .before .args in
+    let o = c .before .before .before .before .before .before .«open» in
+    let w = c .before .before .before .no-walk in
     (λ i. record {
-      answer = c .before .before .before .before .before .before .«open» .result .reply;
-      block = (c .before .before .put-block .ensures ∙ ap (λ (l : List ℕ). block (c .before .before .before .before .before .before .«open» .result .reply) l 0 noPayload) (noted-none (c .before .before .before .no-walk .result) (ap (λ (w : Walk). w .count) (c .before .before .before .no-walk .ensures)))) i;
+      answer = o .result .reply;
+      block = (c .before .before .put-block .ensures ∙ ap (λ (l : List ℕ). block (o .result .reply) l 0 noPayload) (noted-none (w .result) (ap (λ (x : Walk). x .count) (w .ensures)))) i;
       table = a .table .now;
       file = a .file .now;
     })
-    ∙ routed-early (a .file .now) (a .table .now) (a .client) (a .key) (a .answer .now) (placed (a .file .now) (a .table .now) (a .client) (a .key) (a .payload .now)) (c .before .before .before .before .before .before .«open» .result .reply) (c .before .before .before .before .before .before .«open» .ensures .0) (c .before .before .before .before .before .if2 .taken)
+    ∙ routed-early (a .file .now) (a .table .now) (a .client) (a .key) (a .answer .now) (placed (a .file .now) (a .table .now) (a .client) (a .key) (a .payload .now)) (o .result .reply) (o .ensures .0) (c .before .before .before .before .before .if2 .taken)
     ∙ insert-is (a .file .now) (a .table .now) (a .client) (a .key) (a .payload .now) (a .answer .now) true (not-false _ (c .before .before .before .before .before .before .before .before .before .if1 .left))
-
-slice-aggregate-walk-route : tie.Need-slice-aggregate-walk-route
-slice-aggregate-walk-route c = search needs
 
 walk-route-requires : tie.Need-walk-route-requires
 walk-route-requires c κs =
-    let a = c .before .before .before .before .before .before .before .before .before .before .before .args in
-    let g = (c .before .before .before .«open» .ensures .1 (c .before .before .if2 .left)) in
-    (g .known, g .low, g .formed, g .behind, refl)
+    let g = c .before .before .«open» .ensures .1 (c .before .if2 .left) in
+    (g .known, g .low, g .formed, g .behind)
 
 put-block-requires-2 : tie.Need-put-block-requires-2
-put-block-requires-2 c κs =
-    let a = c .before .before .before .before .before .before .before .before .before .before .before .before .before .before .before .before .args in
-    (eqb-true _ 24 (and-left _ _ (not-false _ (c .before .before .before .before .before .before .before .before .before .before .before .if1 .left))), c .before .before .before .before .walk-route .ensures .0 .few)
+put-block-requires-2 c κs = (eqb-true _ 24 (and-left _ _ (not-false _ (c .before .before .before .before .before .before .before .before .before .if1 .left))), c .before .before .before .walk-route .ensures .few)
 
 same-length-4 : tie.Need-same-length-4
 same-length-4 c = search needs
@@ -81,35 +75,28 @@ same-length-6 c = search needs
 
 returns-3 : tie.Need-returns-3
 returns-3 c =
-    let a = c .before .before .before .before .before .before .before .before .before .before .before .before .before .before .before .before .before .before .before .args in
-    (λ i. record {
-      answer = 7;
-      block = (c .before .before .put-block2 .ensures) i;
-      table = a .table .now;
-      file = a .file .now;
-    })
-    ∙ routed-stopped (a .file .now) (a .table .now) (a .client) (a .key) (a .answer .now) (placed (a .file .now) (a .table .now) (a .client) (a .key) (a .payload .now)) (sym (c .before .before .before .before .before .before .before .before .before .before .before .«open» .ensures .0) ∙ c .before .before .before .before .before .before .before .before .before .before .if2 .left) (noted (c .before .before .before .before .before .before .before .walk-route .result .walk))
-    (c .before .before .before .before .before .before .before .walk-route .ensures .0 .met ∙ ap (cut (bucketSoundIn (a .file .now))) (ap (λ (x : Image). wayOf (a .file .now) x (a .key)) ((c .before .before .before .before .before .before .before .before .before .before .before .«open» .ensures .1 (c .before .before .before .before .before .before .before .before .before .before .if2 .left)) .is)))
-    (sym (c .before .before .before .before .before .before .before .walk-route .ensures .0 .sound ∙ ap (everyOn (bucketSoundIn (a .file .now))) (ap (λ (x : Image). wayOf (a .file .now) x (a .key)) ((c .before .before .before .before .before .before .before .before .before .before .before .«open» .ensures .1 (c .before .before .before .before .before .before .before .before .before .before .if2 .left)) .is))) ∙ not-true _ (c .before .before .before .before .if3 .taken))
-    ∙ insert-is (a .file .now) (a .table .now) (a .client) (a .key) (a .payload .now) (a .answer .now) true (not-false _ (c .before .before .before .before .before .before .before .before .before .before .before .before .before .before .if1 .left))
-
-slice-aggregate-finish-insert : tie.Need-slice-aggregate-finish-insert
-slice-aggregate-finish-insert c = search needs
+    let a = c .before .before .before .before .before .before .before .before .before .before .before .before .before .before .before .before .before .args in
+    let o = c .before .before .before .before .before .before .before .before .before .«open» in
+    let g = o .ensures .1 (c .before .before .before .before .before .before .before .before .if2 .left) in
+    let w = c .before .before .before .before .before .before .walk-route in
+    (λ i. record { answer = 7; block = c .before .before .put-block2 .ensures i; table = a .table .now; file = a .file .now })
+    ∙ routed-stopped (a .file .now) (a .table .now) (a .client) (a .key) (a .answer .now) (placed (a .file .now) (a .table .now) (a .client) (a .key) (a .payload .now)) (sym (o .ensures .0) ∙ c .before .before .before .before .before .before .before .before .if2 .left) (noted (w .result .walk))
+    (w .ensures .met ∙ ap (λ (x : Image). cut (bucketSoundIn (a .file .now)) (wayOf (a .file .now) x (a .key))) (g .is))
+    (sym (c .before .before .before .before .before .before .walk-route .ensures .sound ∙ ap (λ (x : Image). everyOn (bucketSoundIn (a .file .now)) (wayOf (a .file .now) x (a .key))) (g .is)) ∙ not-true _ (c .before .before .before .before .if3 .taken))
+    ∙ insert-is (a .file .now) (a .table .now) (a .client) (a .key) (a .payload .now) (a .answer .now) true (not-false _ (c .before .before .before .before .before .before .before .before .before .before .before .before .if1 .left))
 
 finish-insert-requires : tie.Need-finish-insert-requires
 finish-insert-requires c κs =
-    let a = c .before .before .before .before .before .before .before .before .before .before .before .before .before .before .before .before .before .before .before .args in
-    let w = c .before .before .before .before .before .before .before .walk-route in
-    let fine = not-false _ (c .before .before .before .before .if3 .left) in (
-      eqb-true _ 24 (and-left _ _ (not-false _ (c .before .before .before .before .before .before .before .before .before .before .before .before .before .before .if1 .left))),
+    let a = c .before .before .before .before .before .before .before .before .before .before .before .before .before .before .before .before .args in
+    let o = c .before .before .before .before .before .before .before .before .«open» in
+    let g = o .ensures .1 (c .before .before .before .before .before .before .before .if2 .left) in
+    let w = c .before .before .before .before .before .walk-route in (
+      eqb-true _ 24 (and-left _ _ (not-false _ (c .before .before .before .before .before .before .before .before .before .before .before .if1 .left))),
       record {
-        opened = (c .before .before .before .before .before .before .before .before .before .before .before .«open» .ensures .1 (c .before .before .before .before .before .before .before .before .before .before .if2 .left));
-        ended =
-            subst (λ (s : Bool). Walked (a .file .now) (a .key) (wayOf (a .file .now) (c .before .before .before .before .before .before .before .before .before .before .before .«open» .result .image) (a .key)) (w .result .walk) (w .result .bucket) s) fine (w .ensures .0);
-        gathered = w .ensures .1 fine;
-        long = omega (arith, w .kept);
+        opened = g;
+        ended = subst (λ (s : Bool). Walked (a .file .now) (a .key) (wayOf (a .file .now) (o .result .image) (a .key)) (w .result .walk) (w .result .bucket) s) (not-false _ (c .before .before .before .if3 .left)) (w .ensures);
       },
-      eqb-true _ 14 (and-right (eqb (length (a .answer .now)) 24) _ (not-false _ (c .before .before .before .before .before .before .before .before .before .before .before .before .before .before .if1 .left))),
+      eqb-true _ 14 (and-right (eqb (length (a .answer .now)) 24) _ (not-false _ (c .before .before .before .before .before .before .before .before .before .before .before .if1 .left))),
     )
 
 same-length-7 : tie.Need-same-length-7
@@ -123,11 +110,12 @@ same-length-9 c = search needs
 
 returns-4 : tie.Need-returns-4
 returns-4 c =
-    let a = c .before .before .before .before .before .before .before .before .before .before .before .before .before .before .before .before .before .before .before .before .before .before .before .before .before .before .args in
+    let a = c .before .before .before .before .before .before .before .before .before .before .before .before .before .before .before .before .before .before .before .before .before .before .before .args in
+    let o = c .before .before .before .before .before .before .before .before .before .before .before .before .before .before .before .«open» in
+    let g = o .ensures .1 (c .before .before .before .before .before .before .before .before .before .before .before .before .before .before .if2 .left) in
     c .before .before .before .before .before .before .finish-insert .ensures
-    ∙ routed-reached (a .file .now) (a .table .now) (a .client) (a .key) (a .answer .now) (placed (a .file .now) (a .table .now) (a .client) (a .key) (a .payload .now)) (sym (c .before .before .before .before .before .before .before .before .before .before .before .before .before .before .before .before .before .before .«open» .ensures .0) ∙ c .before .before .before .before .before .before .before .before .before .before .before .before .before .before .before .before .before .if2 .left)
-    (sym (c .before .before .before .before .before .before .before .before .before .before .before .before .before .before .walk-route .ensures .0 .sound ∙ ap (everyOn (bucketSoundIn (a .file .now))) (ap (λ (x : Image). wayOf (a .file .now) x (a .key)) ((c .before .before .before .before .before .before .before .before .before .before .before .before .before .before .before .before .before .before .«open» .ensures .1 (c .before .before .before .before .before .before .before .before .before .before .before .before .before .before .before .before .before .if2 .left)) .is))) ∙ not-false _ (c .before .before .before .before .before .before .before .before .before .before .before .if3 .left))
-    ∙ insert-is (a .file .now) (a .table .now) (a .client) (a .key) (a .payload .now) (a .answer .now) true (not-false _ (c .before .before .before .before .before .before .before .before .before .before .before .before .before .before .before .before .before .before .before .before .before .if1 .left))
+    ∙ routed-reached (a .file .now) (a .table .now) (a .client) (a .key) (a .answer .now) (placed (a .file .now) (a .table .now) (a .client) (a .key) (a .payload .now)) (sym (o .ensures .0) ∙ c .before .before .before .before .before .before .before .before .before .before .before .before .before .before .if2 .left) (sym (c .before .before .before .before .before .before .before .before .before .before .before .before .walk-route .ensures .sound ∙ ap (λ (x : Image). everyOn (bucketSoundIn (a .file .now)) (wayOf (a .file .now) x (a .key))) (g .is)) ∙ not-false _ (c .before .before .before .before .before .before .before .before .before .before .if3 .left))
+    ∙ insert-is (a .file .now) (a .table .now) (a .client) (a .key) (a .payload .now) (a .answer .now) true (not-false _ (c .before .before .before .before .before .before .before .before .before .before .before .before .before .before .before .before .before .before .if1 .left))
 
 pub insert-spec : {M : Type 1} → statement M
 insert-spec =
@@ -141,14 +129,12 @@ insert-spec =
     same-length-2
     same-length-3
     returns-2
-    slice-aggregate-walk-route
     walk-route-requires
     put-block-requires-2
     same-length-4
     same-length-5
     same-length-6
     returns-3
-    slice-aggregate-finish-insert
     finish-insert-requires
     same-length-7
     same-length-8

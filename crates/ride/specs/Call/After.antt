@@ -18,7 +18,7 @@ use Rattle.address.specs.Rules.Route.{Delivered, last, last-one, delivered, rou
 use Rattle.address.specs.Rules.Adjust.{imageAfter-is, after-formed, after-behind}
 use Rattle.layout.specs.Bytes.{part}
 use Rattle.layout.specs.Bytes.Edit.{part-is, part-part}
-use Rattle.bucket.specs.Region.{slotAt, countOf, rideAt, ridesOf, keysOf}
+use Rattle.bucket.specs.Region.{slotAt, rideAt}
 use Rattle.bucket.specs.Region.Judge.{ride-payload}
 use Rattle.client.specs.Table.{imageOf, withImage}
 use Rattle.file.specs.File.{mostOf, slotsOf, stateOf, startOf, regionOf}
@@ -97,39 +97,37 @@ module _ (file : List ℕ) (header : Header) (seen : Known file header) (image :
 
 -- ---- what is known once the key's own bucket is reached
 
-pub record Reached (file table : List ℕ) (client key : ℕ) (header : Header) (image : Image) (walk : Walk) (a : ℕ) (keys : List ℕ) : Type 0 where
+pub record Reached (file table : List ℕ) (client key : ℕ) (header : Header) (image : Image) (walk : Walk) (a : ℕ) : Type 0 where
   pub opened : Opening file table client header image
   pub ended : Walked file key (wayOf file image key) walk a true
-  pub gathered : take (countOf (regionOf file a)) keys ≡ keysOf (ridesOf (regionOf file a))
-  pub long : length keys ≡ 64
 
-module _ (file table : List ℕ) (client key : ℕ) (header : Header) (image : Image) (walk : Walk) (a : ℕ) (keys : List ℕ)
-    (r : Reached file table client key header image walk a keys) where
-  -- the route noted is the route of the client's image
-  pub reached-way : noted walk ≡ wayOf file (imageOf table client) key
-  reached-way = r .ended .whole refl ∙ ap (λ (x : Image). wayOf file x key) (r .opened .is)
-
-  pub reached-own : a ≡ ownOf file key
-  reached-own = r .ended .own refl
-
-  -- the image that is written
-  pub reached-image : adjusted firstBuckets image (walk .first) (level firstBuckets (header .state) (walk .first)) (eqb (walk .count) 1)
-      ≡ imageAfter firstBuckets (stateOf file) (imageOf table client) key
-  reached-image = after-is file header (r .opened .known) image (r .opened .formed) (r .opened .behind) key walk a (r .ended) (level firstBuckets (header .state) (walk .first)) refl
-      ∙ ap (λ (x : Image). imageAfter firstBuckets (stateOf file) x key) (r .opened .is)
-
-  pub reached-small : (adjusted firstBuckets image (walk .first) (level firstBuckets (header .state) (walk .first)) (eqb (walk .count) 1) .level ≤ 12)
-      × (adjusted firstBuckets image (walk .first) (level firstBuckets (header .state) (walk .first)) (eqb (walk .count) 1) .pointer ≤ 4096)
-  reached-small = rw (after-is file header (r .opened .known) image (r .opened .formed) (r .opened .behind) key walk a (r .ended) (level firstBuckets (header .state) (walk .first)) refl)
-      (after-small file header (r .opened .known) image (r .opened .formed) (r .opened .behind) key walk a (r .ended))
-
-  pub reached-first : walk .first ≤ 4096
-  reached-first = first-small file header (r .opened .known) image (r .opened .formed) (r .opened .behind) key walk a (r .ended)
-
-  pub reached-table : (after : List ℕ) → after ≡ withImage table client (adjusted firstBuckets image (walk .first) (level firstBuckets (header .state) (walk .first)) (eqb (walk .count) 1))
+-- then the route noted is the client's, the bucket is the key's own, and the image to be written is small
+pub record Arrived (file table : List ℕ) (client key : ℕ) (header : Header) (image : Image) (walk : Walk) (a : ℕ) : Type 0 where
+  pub way : noted walk ≡ wayOf file (imageOf table client) key
+  pub own : a ≡ ownOf file key
+  pub first : walk .first ≤ 4096
+  pub low : adjusted firstBuckets image (walk .first) (level firstBuckets (header .state) (walk .first)) (eqb (walk .count) 1) .level ≤ 12
+  pub near : adjusted firstBuckets image (walk .first) (level firstBuckets (header .state) (walk .first)) (eqb (walk .count) 1) .pointer ≤ 4096
+  pub written : (after : List ℕ) → after ≡ withImage table client (adjusted firstBuckets image (walk .first) (level firstBuckets (header .state) (walk .first)) (eqb (walk .count) 1))
       → after ≡ adjustedTable file table client key
-  unfolding adjustedTable
-  reached-table after e = e ∙ ap (withImage table client) reached-image
+
+pub arrived : (file table : List ℕ) (client key : ℕ) (header : Header) (image : Image) (walk : Walk) (a : ℕ) → Reached file table client key header image walk a
+    → Arrived file table client key header image walk a
+unfolding adjustedTable
+arrived file table client key header image walk a r = record {
+  way = r .ended .whole refl ∙ ap (λ (x : Image). wayOf file x key) (r .opened .is);
+  own = r .ended .own refl;
+  first = first-small file header (r .opened .known) image (r .opened .formed) (r .opened .behind) key walk a (r .ended);
+  low = omega (arith, ap (λ (x : Image). x .level) after, small);
+  near = omega (arith, ap (λ (x : Image). x .pointer) after, small);
+  written = λ left e. e ∙ ap (withImage table client) (after ∙ ap (λ (x : Image). imageAfter firstBuckets (stateOf file) x key) (r .opened .is));
+}
+  where
+    after : adjusted firstBuckets image (walk .first) (level firstBuckets (header .state) (walk .first)) (eqb (walk .count) 1) ≡ imageAfter firstBuckets (stateOf file) image key
+    after = after-is file header (r .opened .known) image (r .opened .formed) (r .opened .behind) key walk a (r .ended) (level firstBuckets (header .state) (walk .first)) refl
+
+    small : (imageAfter firstBuckets (stateOf file) image key .level ≤ 12) × (imageAfter firstBuckets (stateOf file) image key .pointer ≤ 4096)
+    small = after-small file header (r .opened .known) image (r .opened .formed) (r .opened .behind) key walk a (r .ended)
 
 -- a payload, cut out of the file
 pub payload-cut : (file : List ℕ) (header : Header) → Known file header → (a at k from : ℕ) → a < mostOf file → at ≡ startOf (header .slots) a → k < slotsOf file

@@ -28,8 +28,7 @@ use Rattle.client.specs.Table.Laws.{record-image, record-fits}
 use Rattle.file.specs.File.{mostOf, slotsOf, stateOf, bucketsOf, headerSound, regionOf, bucketSoundIn, fileSound}
 use Rattle.file.specs.File.Judge.{header-ranges, buckets-of, state-small}
 use Rattle.file.specs.File.Kept.{sound-bucket, ride-kept}
-use Rattle.ride.specs.Call.{Outcome, early, cut, everyOn, wayOf, ownOf, held, full, block, noPayload, adjustedTable, routed, search, overfull, insert, inserted, entry, forwardsIn}
-use Rattle.ride.specs.Call.Replied.{searched, placed}
+use Rattle.ride.specs.Call.{Outcome, early, cut, everyOn, wayOf, ownOf, held, full, block, noPayload, adjustedTable, routed, searched, search, overfull, placed, insert, inserted, entry, forwardsIn}
 use Rattle.ride.specs.Call.Open.{early-table, early-record, early-header, early-ahead}
 
 -- what a call that is not refused before its route has passed
@@ -154,7 +153,7 @@ routed-left P fits file table client key answer reached given came =
 -- insert leaves a sound file sound
 pub insert-kept : (file table : List ℕ) (client key : ℕ) (payload answer : List ℕ) → Bytes file → Bytes payload → key < 256 ^ 8 → fileSound file ≡ true
     → fileSound (insert file table client key payload answer .file) ≡ true
-unfolding insert
+unfolding insert placed
 insert-kept file table client key payload answer bytes bytes-too small sound =
     routed-left (λ t f. fileSound f ≡ true) (eqb (length answer) 24 && eqb (length payload) 14) file table client key answer _ sound came
   where
@@ -175,7 +174,7 @@ insert-kept file table client key payload answer bytes bytes-too small sound =
 
 -- insert and search leave a sound table sound
 pub insert-table-kept : (file table : List ℕ) (client key : ℕ) (payload answer : List ℕ) → tableSound table ≡ true → tableSound (insert file table client key payload answer .table) ≡ true
-unfolding insert
+unfolding insert placed
 insert-table-kept file table client key payload answer sound =
     routed-left (λ t f. tableSound t ≡ true) (eqb (length answer) 24 && eqb (length payload) 14) file table client key answer (placed file table client key payload) sound
     (λ fits none. go (adjusted-kept file table client key (passed file table client none) sound) (held file key) (full file key))
@@ -189,7 +188,7 @@ insert-table-kept file table client key payload answer sound =
     go h false false = h
 
 pub search-table-kept : (file table : List ℕ) (client key : ℕ) (answer : List ℕ) → tableSound table ≡ true → tableSound (search file table client key answer .table) ≡ true
-unfolding search
+unfolding search searched
 search-table-kept file table client key answer sound =
     routed-left (λ t f. tableSound t ≡ true) (eqb (length answer) 24) file table client key answer (searched file table client key) sound
     (λ fits none. go (adjusted-kept file table client key (passed file table client none) sound) (held file key))

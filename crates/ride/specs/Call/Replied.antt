@@ -11,7 +11,7 @@ use Rattle.layout.specs.Replies.{reply}
 use Rattle.bucket.specs.Region.{countOf, rideAt, slotOf}
 use Rattle.client.specs.Table.{imageOf}
 use Rattle.file.specs.File.{capacityOf, slotsOf, regionOf, bucketSoundIn, withRide}
-use Rattle.ride.specs.Call.{Outcome, early, cut, everyOn, wayOf, ownOf, held, full, block, noPayload, adjustedTable, routed, search, insert, inserted, overfull}
+use Rattle.ride.specs.Call.{Outcome, early, cut, everyOn, wayOf, ownOf, held, full, block, noPayload, adjustedTable, routed, searched, search, placed, insert, inserted, overfull}
 
 module _ (file table : List ℕ) (client key : ℕ) (answer : List ℕ) (reached : Outcome) where
   pub routed-block : record { answer = 14; block = answer; table = table; file = file } ≡ routed false file table client key answer reached
@@ -33,18 +33,7 @@ module _ (file table : List ℕ) (client key : ℕ) (answer : List ℕ) (reached
     unfolding routed
     routed-reached good = rw (eq-eqb (reply (early file table client) 0) 0 none, good)
 
--- the outcomes of a search that reached the key's own bucket, and of an insert that did
-abbrev pub searched : List ℕ → List ℕ → ℕ → ℕ → Outcome
-searched file table client key =
-    cond (held file key)
-    (record {
-      answer = 0;
-      block = block 0 (wayOf file (imageOf table client) key) 0 (rideAt (regionOf file (ownOf file key)) (slotOf (regionOf file (ownOf file key)) key) .payload);
-      table = adjustedTable file table client key;
-      file = file;
-    })
-    (record { answer = 1; block = block 1 (wayOf file (imageOf table client) key) 0 noPayload; table = adjustedTable file table client key; file = file })
-
+-- whose outcome it is
 pub search-is : (file table : List ℕ) (client key : ℕ) (answer : List ℕ) (fits : Bool) → eqb (length answer) 24 ≡ fits
     → routed fits file table client key answer (searched file table client key) ≡ search file table client key answer
 unfolding search
@@ -53,17 +42,6 @@ search-is file table client key answer fits e = ap (λ (t : Bool). routed t file
 pub search-single : (file table : List ℕ) (client key : ℕ) (answer : List ℕ) (o p : Outcome)
     → o ≡ search file table client key answer → p ≡ search file table client key answer → o ≡ p
 search-single file table client key answer o p eo ep = eo ∙ sym ep
-
-abbrev pub placed : List ℕ → List ℕ → ℕ → ℕ → List ℕ → Outcome
-placed file table client key payload =
-    cond (held file key) (record { answer = 8; block = block 8 (wayOf file (imageOf table client) key) 0 noPayload; table = adjustedTable file table client key; file = file })
-    (cond (full file key) (record { answer = 9; block = block 9 (wayOf file (imageOf table client) key) 0 noPayload; table = adjustedTable file table client key; file = file })
-    (record {
-      answer = 0;
-      block = block 0 (wayOf file (imageOf table client) key) (overfull file key) noPayload;
-      table = adjustedTable file table client key;
-      file = inserted file key payload;
-    }))
 
 pub insert-is : (file table : List ℕ) (client key : ℕ) (payload answer : List ℕ) (fits : Bool) → (eqb (length answer) 24 && eqb (length payload) 14) ≡ fits
     → routed fits file table client key answer (placed file table client key payload) ≡ insert file table client key payload answer
@@ -96,17 +74,22 @@ module _ (file : List ℕ) (key a : ℕ) (own : a ≡ ownOf file key) where
 module _ (file table : List ℕ) (client key : ℕ) (way answer after : List ℕ) (ew : way ≡ wayOf file (imageOf table client) key) (et : after ≡ adjustedTable file table client key) where
   pub search-found : held file key ≡ true → (payload : List ℕ) → payload ≡ rideAt (regionOf file (ownOf file key)) (slotOf (regionOf file (ownOf file key)) key) .payload
       → answer ≡ block 0 way 0 payload → record { answer = 0; block = answer; table = after; file = file } ≡ searched file table client key
+  unfolding searched
   search-found h payload ep ea = rw h (λ i. record { answer = 0; block = (ea ∙ ap₂ (λ (w p : List ℕ). block 0 w 0 p) ew ep) i; table = et i; file = file })
 
   pub search-absent : held file key ≡ false → answer ≡ block 1 way 0 noPayload → record { answer = 1; block = answer; table = after; file = file } ≡ searched file table client key
+  unfolding searched
   search-absent h ea = rw h (λ i. record { answer = 1; block = (ea ∙ ap (λ (w : List ℕ). block 1 w 0 noPayload) ew) i; table = et i; file = file })
 
   pub insert-held : (payload : List ℕ) → held file key ≡ true → answer ≡ block 8 way 0 noPayload → record { answer = 8; block = answer; table = after; file = file } ≡ placed file table client key payload
+  unfolding placed
   insert-held payload h ea = rw h (λ i. record { answer = 8; block = (ea ∙ ap (λ (w : List ℕ). block 8 w 0 noPayload) ew) i; table = et i; file = file })
 
   pub insert-full : (payload : List ℕ) → held file key ≡ false → full file key ≡ true → answer ≡ block 9 way 0 noPayload → record { answer = 9; block = answer; table = after; file = file } ≡ placed file table client key payload
+  unfolding placed
   insert-full payload h l ea = rw (h, l) (λ i. record { answer = 9; block = (ea ∙ ap (λ (w : List ℕ). block 9 w 0 noPayload) ew) i; table = et i; file = file })
 
   pub insert-done : (payload : List ℕ) → held file key ≡ false → full file key ≡ false → (flag : ℕ) → flag ≡ overfull file key → answer ≡ block 0 way flag noPayload
       → (next : List ℕ) → next ≡ inserted file key payload → record { answer = 0; block = answer; table = after; file = next } ≡ placed file table client key payload
+  unfolding placed
   insert-done payload h l flag ef ea next en = rw (h, l) (λ i. record { answer = 0; block = (ea ∙ ap₂ (λ (w : List ℕ) (f : ℕ). block 0 w f noPayload) ew ef) i; table = et i; file = en i })

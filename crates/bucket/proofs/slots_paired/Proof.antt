@@ -1,0 +1,100 @@
+-- `bucket::slots_paired`: marks so far, what is left to belong, and the keys so far distinct; each turn adds one slot whose key is not found before it.
+use borrow.Author.Needs.{needs}
+use Prim.Native.Nat.{ℕ, _-_}
+use mathlib.Core.Path.{_≡_, refl, sym, ap, _∙_}
+use mathlib.Core.Bool.{true, false, _&&_}
+use mathlib.Core.List.{_∷_, []}
+use native.Mathlib.Omega.{arith}
+use lib.Dec.{eqb}
+use Rattle.address.specs.Rules.{keeps}
+use Rattle.layout.specs.Bytes.{allBelow, firstFrom}
+use Rattle.layout.specs.Bytes.Tests.{and-none}
+use Rattle.bucket.specs.Region.{slotUsed, keyAt, ridesFrom, keysOf, every, distinct}
+use Rattle.bucket.specs.Region.Judge.{Slotted, slots-none, slots-more, slots-done}
+use Rattle.bucket.specs.Region.Single.{found-none, found-met, single-none, single-more, single-met, single-done}
+use Rattle.bucket.proofs.slots_paired.Statement.{statement}
+use Rattle.bucket.proofs.slots_paired.Tie as tie
+
+abbrev Inv-loop : tie.InvT-loop
+Inv-loop region count first bucket level used₀ belong₀ k₀ t10 used belong k = (t10 ≡ 76 ∷ 82 ∷ []) × Slotted (keeps first bucket level) region count k used belong × (distinct (keysOf (ridesFrom region 0 k)) ≡ true)
+
+abbrev μ-loop : tie.MeasureT-loop
+μ-loop region count first bucket level used₀ belong₀ k₀ t10 used belong k = count - k
+
+loop-holds : tie.Need-loop-holds Inv-loop μ-loop
+loop-holds c =
+    let a = c .before .args in
+    (refl, slots-none (keeps (a .first) (a .bucket) (a .level)) (a .region .now) (a .count), single-none (a .region .now))
+
+key-at-requires : tie.Need-key-at-requires Inv-loop μ-loop
+key-at-requires c κs = search needs
+
+mul-has-mark : tie.Need-mul-has-mark Inv-loop μ-loop
+mul-has-mark c = search needs
+
+add-has-mark : tie.Need-add-has-mark Inv-loop μ-loop
+add-has-mark c = search needs
+
+has-mark-requires : tie.Need-has-mark-requires Inv-loop μ-loop
+has-mark-requires c κs = search needs
+
+hash-requires : tie.Need-hash-requires Inv-loop μ-loop
+hash-requires c κs = search needs
+
+find-requires : tie.Need-find-requires Inv-loop μ-loop
+find-requires c κs = search needs
+
+returns : tie.Need-returns Inv-loop μ-loop
+returns c =
+    let a = c .before .before .before .before .before .before .before .before .before .args in
+    let l = c .before .before .before .before .before .before .before .loop in
+    let key = c .before .before .before .before .before .key-at in
+    let place = c .before .find in
+    let found = place .ensures ∙ ap (λ (x : ℕ). firstFrom (λ i. eqb (keyAt (a .region .now) i) x) (l .k) 0) (key .ensures) in
+    sym (and-none (allBelow (slotUsed (a .region .now)) (a .count) && every (keeps (a .first) (a .bucket) (a .level)) (keysOf (ridesFrom (a .region .now) 0 (a .count)))) _
+    (sym (single-met (a .region .now) (l .k) (l .inv .2) false (found-met (a .region .now) (keyAt (a .region .now) (l .k)) (l .k) (place .result) found (c .if1 .taken)) refl (a .count) (c .before .before .before .before .before .before .loop-test .taken))))
+
+add-k : tie.Need-add-k Inv-loop μ-loop
+add-k c = search needs
+
+loop-less : tie.Need-loop-less Inv-loop μ-loop
+loop-less c = search needs
+
+loop-again : tie.Need-loop-again Inv-loop μ-loop
+loop-again c =
+    let a = c .before .before .before .before .before .before .before .before .before .args in
+    let l = c .before .before .before .before .before .before .before .loop in
+    let key = c .before .before .before .before .before .key-at in
+    let place = c .before .find in
+    let found = place .ensures ∙ ap (λ (x : ℕ). firstFrom (λ i. eqb (keyAt (a .region .now) i) x) (l .k) 0) (key .ensures) in (
+      refl,
+      slots-more (a .first) (a .bucket) (a .level) (a .region .now) (a .count) (l .k) (l .used) (l .belong) (c .before .before .before .has-mark .result) (key .result) (c .before .before .hash .result)
+          (l .inv .1) (c .before .before .before .before .before .before .loop-test .taken) (key .ensures) (c .before .before .before .has-mark .ensures) (c .before .before .hash .ensures .0),
+      single-more (a .region .now) (l .k) (l .inv .2) true (found-none (a .region .now) (keyAt (a .region .now) (l .k)) (l .k) (place .result) found (c .if1 .left)) refl,
+    )
+
+returns-2 : tie.Need-returns-2 Inv-loop μ-loop
+returns-2 c =
+    let a = c .before .before .before .args in
+    let l = c .before .loop in
+    slots-done (keeps (a .first) (a .bucket) (a .level)) (a .region .now) (a .count) (l .k) (l .used) (l .belong) (l .inv .1) (c .loop-test .left) _
+    (single-done (a .region .now) (a .count) (l .k) (l .inv .1 .within) (c .loop-test .left) (l .inv .2))
+
+pub slots-paired-spec : {M : Type 1} → statement M
+slots-paired-spec =
+    tie.close
+    (tie.spec
+    Inv-loop
+    μ-loop
+    loop-holds
+    key-at-requires
+    mul-has-mark
+    add-has-mark
+    has-mark-requires
+    hash-requires
+    find-requires
+    returns
+    add-k
+    loop-less
+    loop-again
+    returns-2)
