@@ -1,6 +1,3 @@
--- The definitions that the contracts of `commands` cite, and their laws: bytes, numbers as text, a line read, a line written.
+-- The definitions that the contracts of `commands` cite, and their laws: bytes by name, and the program's text.
 pub mod Bytes
-pub mod Examples
-pub mod Line
-pub mod Number
-pub mod Print
+pub mod Text

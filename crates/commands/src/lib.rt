@@ -2,18 +2,17 @@
 // only; `specs/Line.antt` has the grammar, `specs/Print.antt` the lines.
 ghost use mathlib.Core.Path.{_≡_};
 ghost use mathlib.Core.List.{[], _∷_};
-ghost use Prim.Native.Nat.{_+_, _≤_, _<_};
+ghost use Prim.Native.Nat.{_+_, _≤_, _<_, min};
 ghost use lib.ListN.{length};
-ghost use Rattle.commands.specs.Number.{numberOf, numberFrom, decimal};
-ghost use Rattle.commands.specs.Line.{placeOf, lineEnd, limitAfter, named, ofNumbers, commandOf};
-ghost use Rattle.commands.specs.Print.{Wrote, eachAfter, joined, unknownLine, heading, answerLine, scanned, scanLine, lineRoom};
+ghost use Rattle.commands.specs.Bytes.{greater};
+ghost use Rattle.commands.specs.Text.{numberOf, numberFrom, decimal, placeOf, lineEnd, limitAfter, named, ofNumbers, commandOf, Wrote, WroteLine, eachAfter, joined, unknownLine, heading, answerLine, rideLine, splitRoute, splitLine, scanned, scanLine, lineRoom};
 
 // What a line asks for: a split; an insert or a search by client and key; a scan by client and lift.
 pub enum Command {
     Split,
     Insert(u64, u64),
     Search(u64, u64),
-    Scan(u64, u64),
+    Scan(u64, u32),
     Unknown,
 }
 
@@ -105,6 +104,7 @@ fn most_after(letter: u8) -> u64
 
 // The command of a letter and two numbers.
 fn command_named(letter: u8, client: u64, number: u64) -> Command
+    requires { ⌜ number < limitAfter letter ⌝ }
     ensures { λ r. ⌜ r ≡ named letter client number ⌝ }
 {
     if letter == b'I' {
@@ -114,7 +114,7 @@ fn command_named(letter: u8, client: u64, number: u64) -> Command
         return Command::Search(client, number);
     }
     if letter == b'A' {
-        return Command::Scan(client, number);
+        return Command::Scan(client, number as u32);
     }
     Command::Unknown
 }
@@ -155,7 +155,7 @@ pub fn read_command(line: &[u8]) -> Command
 }
 
 // Writes one byte.
-pub fn put_byte(out: &mut [u8], at: usize, byte: u8) -> usize
+fn put_byte(out: &mut [u8], at: usize, byte: u8) -> usize
     requires { ⌜ at < length (now out) ⌝ }
     ensures { λ r. ⌜ Wrote at (byte ∷ []) (now (out .entry)) (now (out .exit)) r ⌝ }
 {
@@ -164,7 +164,7 @@ pub fn put_byte(out: &mut [u8], at: usize, byte: u8) -> usize
 }
 
 // Writes a number's decimal digits.
-pub fn put_number(out: &mut [u8], at: usize, x: u64) -> usize
+fn put_number(out: &mut [u8], at: usize, x: u64) -> usize
     requires { ⌜ at + length (decimal x) ≤ length (now out) ⌝ }
     ensures { λ r. ⌜ Wrote at (decimal x) (now (out .entry)) (now (out .exit)) r ⌝ }
 {
@@ -205,7 +205,7 @@ fn put_joined(out: &mut [u8], at: usize, separator: u8, numbers: &[u16]) -> usiz
 // Writes the line of an unknown command.
 pub fn put_unknown(out: &mut [u8], at: usize) -> usize
     requires { ⌜ at + lineRoom 0 ≤ length (now out) ⌝ }
-    ensures { λ r. ⌜ Wrote at unknownLine (now (out .entry)) (now (out .exit)) r ⌝ }
+    ensures { λ r. ⌜ WroteLine 0 at unknownLine (now (out .entry)) (now (out .exit)) r ⌝ }
 {
     let next = put_byte(out, at, b'?');
     put_byte(out, next, b'\n')
@@ -222,13 +222,66 @@ fn put_heading(out: &mut [u8], at: usize, letter: u8, reply: u32) -> usize
     put_byte(out, next, b' ')
 }
 
-// Writes the line of an insert, a search or a split.
-pub fn put_answer(out: &mut [u8], at: usize, letter: u8, reply: u32, route: &[u16]) -> usize
+// Writes the line of a reply and a route.
+fn put_answer(out: &mut [u8], at: usize, letter: u8, reply: u32, route: &[u16]) -> usize
     requires { ⌜ at + lineRoom (length (now route)) ≤ length (now out) ⌝ }
-    ensures { λ r. ⌜ Wrote at (answerLine letter reply (now (route .entry))) (now (out .entry)) (now (out .exit)) r ⌝ }
+    ensures { λ r. ⌜ WroteLine (length (now (route .entry))) at (answerLine letter reply (now (route .entry))) (now (out .entry)) (now (out .exit)) r ⌝ }
 {
     let mut next = put_heading(out, at, letter, reply);
     next = put_joined(out, next, b'>', route);
+    put_byte(out, next, b'\n')
+}
+
+// How many buckets a route has by its answer block, at most three.
+fn route_count(count: u8) -> usize
+    ensures { λ r. ⌜ r ≡ min count 3 ⌝ }
+{
+    if count < 3 {
+        return count as usize;
+    }
+    3
+}
+
+// Writes the line of an insert or a search, by its answer block.
+pub fn put_ride(out: &mut [u8], at: usize, letter: u8, answer: &[u8]) -> usize
+    requires { ⌜ (length (now answer) ≡ 24) × (at + lineRoom 3 ≤ length (now out)) ⌝ }
+    ensures { λ r. ⌜ WroteLine 3 at (rideLine letter (now (answer .entry))) (now (out .entry)) (now (out .exit)) r ⌝ }
+{
+    let route = [
+        layout::read2(answer, 2) as u16,
+        layout::read2(answer, 4) as u16,
+        layout::read2(answer, 6) as u16,
+    ];
+    let count = route_count(answer[1]);
+    put_answer(
+        out,
+        at,
+        letter,
+        layout::wide(answer[0]) as u32,
+        &route[..count],
+    )
+}
+
+// Writes the buckets of a split: the old and the new, or `-` if it was refused.
+fn put_buckets(out: &mut [u8], at: usize, reply: u32, old: u32, new: u32) -> usize
+    requires { ⌜ at + length (joined greater (splitRoute reply old new)) ≤ length (now out) ⌝ }
+    ensures { λ r. ⌜ Wrote at (joined greater (splitRoute reply old new)) (now (out .entry)) (now (out .exit)) r ⌝ }
+{
+    if reply != 0 {
+        return put_byte(out, at, b'-');
+    }
+    let mut next = put_number(out, at, old as u64);
+    next = put_byte(out, next, b'>');
+    put_number(out, next, new as u64)
+}
+
+// Writes the line of a split.
+pub fn put_split(out: &mut [u8], at: usize, reply: u32, old: u32, new: u32) -> usize
+    requires { ⌜ at + lineRoom 2 ≤ length (now out) ⌝ }
+    ensures { λ r. ⌜ WroteLine 2 at (splitLine reply old new) (now (out .entry)) (now (out .exit)) r ⌝ }
+{
+    let mut next = put_heading(out, at, b'G', reply);
+    next = put_buckets(out, next, reply, old, new);
     put_byte(out, next, b'\n')
 }
 
@@ -248,7 +301,7 @@ fn put_scanned(out: &mut [u8], at: usize, reply: u32, visits: &[u16], matches: u
 // Writes the line of a scan.
 pub fn put_scan(out: &mut [u8], at: usize, reply: u32, visits: &[u16], matches: u32) -> usize
     requires { ⌜ at + lineRoom (length (now visits)) ≤ length (now out) ⌝ }
-    ensures { λ r. ⌜ Wrote at (scanLine reply (now (visits .entry)) matches) (now (out .entry)) (now (out .exit)) r ⌝ }
+    ensures { λ r. ⌜ WroteLine (length (now (visits .entry))) at (scanLine reply (now (visits .entry)) matches) (now (out .entry)) (now (out .exit)) r ⌝ }
 {
     let mut next = put_heading(out, at, b'A', reply);
     next = put_scanned(out, next, reply, visits, matches);

@@ -4,8 +4,8 @@ use native.Mathlib.Omega.{arith}
 use borrow.Author.Needs.{needs}
 use borrow.Fn.Kinds.{In}
 use borrow.Fn.PlainCycle.{Measures, is, falls, and}
-use Rattle.commands.specs.Number.Decimal.{decimal-one, decimal-more, decimal-some, decimal-tail}
-use Rattle.commands.specs.Print.Edit.{wrote-both}
+use Rattle.commands.specs.Text.Decimal.{decimal-one, decimal-more, decimal-some, decimal-tail}
+use Rattle.commands.specs.Text.Edit.{wrote-both}
 use Rattle.commands.proofs.put_number.Reads as put-number
 use Rattle.commands.proofs.put_number.Kinds as put-number-kinds
 use Rattle.commands.proofs.+put_number.Lts-put_number as put-number-lts

@@ -1,6 +1,8 @@
 -- `commands::command_of` reads the two numbers; without either the command is unknown.
 use mathlib.Core.Path.{_∙_, sym}
-use Rattle.commands.specs.Line.Fields.{numbers-first, numbers-second, numbers-both}
+use Rattle.commands.specs.Text.{limitAfter}
+use Rattle.commands.specs.Text.Reading.{number-small}
+use Rattle.commands.specs.Text.Fields.{numbers-first, numbers-second, numbers-both}
 use borrow.Author.Needs.{needs}
 use Rattle.commands.proofs.command_of.Statement.{statement}
 use Rattle.commands.proofs.command_of.Tie as tie
@@ -39,7 +41,10 @@ returns-2 c =
     (rw (← (n .before .most-after .ensures)) (sym (n .read-number2 .ensures) ∙ c .enum-told2 .given .1)))
 
 command-named-requires : tie.Need-command-named-requires
-command-named-requires c κs = search needs
+command-named-requires c κs =
+    let n = c .before .before .before in
+    let a = n .before .before .before .before .before .before .before .before .args in
+    number-small (limitAfter (a .letter)) (a .two .now) _ (rw (← (n .before .most-after .ensures)) (sym (n .read-number2 .ensures) ∙ c .before .number .given .1))
 
 returns-3 : tie.Need-returns-3
 returns-3 c =

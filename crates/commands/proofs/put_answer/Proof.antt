@@ -1,8 +1,7 @@
 -- `commands::put_answer` writes its three parts side by side; they fit since no bucket number has more than five digits.
 use native.Mathlib.Omega.{arith}
-use Rattle.commands.specs.Print.{answerLine}
-use Rattle.commands.specs.Print.Edit.{wrote-both}
-use Rattle.commands.specs.Print.Lines.{heading-short, joined-short}
+use Rattle.commands.specs.Text.Edit.{wrote-both}
+use Rattle.commands.specs.Text.Lines.{heading-short, joined-short, answer-is, answer-short}
 use borrow.Author.Needs.{needs}
 use Rattle.commands.proofs.put_answer.Statement.{statement}
 use Rattle.commands.proofs.put_answer.Tie as tie
@@ -28,12 +27,16 @@ same-length : tie.Need-same-length
 same-length c = search needs
 
 returns : tie.Need-returns
-unfolding answerLine
 returns c =
     let f = c .before .before in
     let s = f .before .before .before .before in
     let h = s .before .before .before .before in
-    wrote-both (wrote-both (h .put-heading .ensures) (s .put-joined .ensures)) (f .put-byte .ensures)
+    let e = h .before .before in
+    let a = e .before .before .args in
+    record {
+      wrote = rw (answer-is (a .letter) (a .reply) (a .route .now)) (wrote-both (wrote-both (h .put-heading .ensures) (s .put-joined .ensures)) (f .put-byte .ensures));
+      short = answer-short (a .letter) (a .reply) (a .route .now) (omega arith) (λ i. e .shared-slice-known .given i .fits);
+    }
 
 pub put-answer-spec : {M : Type 1} → statement M
 put-answer-spec =

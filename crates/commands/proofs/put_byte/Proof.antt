@@ -1,5 +1,5 @@
 -- `commands::put_byte` stores the byte, which is to write it over what stood there.
-use Rattle.commands.specs.Print.Edit.{wrote-byte}
+use Rattle.commands.specs.Text.Edit.{wrote-byte}
 use borrow.Author.Needs.{needs}
 use Rattle.commands.proofs.put_byte.Statement.{statement}
 use Rattle.commands.proofs.put_byte.Tie as tie

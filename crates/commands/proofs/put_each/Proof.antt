@@ -4,9 +4,9 @@ use Prim.Native.Nat.{_-_, _≤_}
 use native.Mathlib.Omega.{arith}
 use borrow.Author.Needs.{needs}
 use lib.ListN.{length, take}
-use Rattle.commands.specs.Print.{Wrote, eachAfter}
-use Rattle.commands.specs.Print.Edit.{wrote-none, wrote-both, wrote-length}
-use Rattle.commands.specs.Print.Lines.{each-more, each-room}
+use Rattle.commands.specs.Text.{Wrote, eachAfter}
+use Rattle.commands.specs.Text.Edit.{wrote-none, wrote-both, wrote-length}
+use Rattle.commands.specs.Text.Lines.{each-none, each-more, each-room}
 use Rattle.commands.proofs.put_each.Statement.{statement}
 use Rattle.commands.proofs.put_each.Tie as tie
 
@@ -17,8 +17,7 @@ abbrev μ-loop : tie.MeasureT-loop
 μ-loop out₀ at separator numbers next₀ i₀ out next i = length numbers - i
 
 loop-holds : tie.Need-loop-holds Inv-loop μ-loop
-unfolding eachAfter
-loop-holds c = (wrote-none (c .before .before .args .at) (c .before .before .args .out .now) (omega arith), omega arith)
+loop-holds c = (rw (each-none (c .before .before .args .separator)) (wrote-none (c .before .before .args .at) (c .before .before .args .out .now) (omega arith)), omega arith)
 
 put-byte-requires : tie.Need-put-byte-requires Inv-loop μ-loop
 put-byte-requires c κs =

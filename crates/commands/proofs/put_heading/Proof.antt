@@ -1,8 +1,7 @@
 -- `commands::put_heading` writes its four parts side by side.
 use native.Mathlib.Omega.{arith}
-use Rattle.commands.specs.Print.{heading}
-use Rattle.commands.specs.Print.Edit.{wrote-both}
-use Rattle.commands.specs.Print.Lines.{heading-length}
+use Rattle.commands.specs.Text.Edit.{wrote-both}
+use Rattle.commands.specs.Text.Lines.{heading-is, heading-length}
 use borrow.Author.Needs.{needs}
 use Rattle.commands.proofs.put_heading.Statement.{statement}
 use Rattle.commands.proofs.put_heading.Tie as tie
@@ -31,13 +30,13 @@ same-length : tie.Need-same-length
 same-length c = search needs
 
 returns : tie.Need-returns
-unfolding heading
 returns c =
     let d = c .before .before in
     let r = d .before .before .before .before in
     let s = r .before .before .before .before in
     let l = s .before .before .before .before in
-    wrote-both (wrote-both (wrote-both (l .put-byte .ensures) (s .put-byte2 .ensures)) (r .put-number .ensures)) (d .put-byte3 .ensures)
+    let a = l .before .before .before .args in
+    rw (heading-is (a .letter) (a .reply)) (wrote-both (wrote-both (wrote-both (l .put-byte .ensures) (s .put-byte2 .ensures)) (r .put-number .ensures)) (d .put-byte3 .ensures))
 
 pub put-heading-spec : {M : Type 1} → statement M
 put-heading-spec =

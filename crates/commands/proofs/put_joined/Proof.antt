@@ -2,8 +2,8 @@
 use mathlib.Core.Path.{ap}
 use native.Mathlib.Omega.{arith}
 use lib.ListN.{length}
-use Rattle.commands.specs.Print.Edit.{wrote-both}
-use Rattle.commands.specs.Print.Lines.{joined-none, joined-some, joined-length}
+use Rattle.commands.specs.Text.Edit.{wrote-both}
+use Rattle.commands.specs.Text.Lines.{joined-none, joined-some, joined-length}
 use borrow.Author.Needs.{needs}
 use Rattle.commands.proofs.put_joined.Statement.{statement}
 use Rattle.commands.proofs.put_joined.Tie as tie

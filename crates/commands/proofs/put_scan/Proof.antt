@@ -1,8 +1,7 @@
 -- `commands::put_scan` writes its three parts side by side; they fit since no bucket number has more than five digits.
 use native.Mathlib.Omega.{arith}
-use Rattle.commands.specs.Print.{scanLine}
-use Rattle.commands.specs.Print.Edit.{wrote-both}
-use Rattle.commands.specs.Print.Lines.{heading-short, scanned-short}
+use Rattle.commands.specs.Text.Edit.{wrote-both}
+use Rattle.commands.specs.Text.Lines.{heading-short, scanned-short, scan-is, scan-short}
 use borrow.Author.Needs.{needs}
 use Rattle.commands.proofs.put_scan.Statement.{statement}
 use Rattle.commands.proofs.put_scan.Tie as tie
@@ -30,12 +29,16 @@ same-length : tie.Need-same-length
 same-length c = search needs
 
 returns : tie.Need-returns
-unfolding scanLine
 returns c =
     let f = c .before .before in
     let s = f .before .before .before .before in
     let h = s .before .before .before .before in
-    wrote-both (wrote-both (h .put-heading .ensures) (s .put-scanned .ensures)) (f .put-byte .ensures)
+    let e = h .before .before in
+    let a = e .before .before .args in
+    record {
+      wrote = rw (scan-is (a .reply) (a .visits .now) (a .matches)) (wrote-both (wrote-both (h .put-heading .ensures) (s .put-scanned .ensures)) (f .put-byte .ensures));
+      short = scan-short (a .reply) (a .visits .now) (a .matches) (omega arith) (omega arith) (λ i. e .shared-slice-known .given i .fits);
+    }
 
 pub put-scan-spec : {M : Type 1} → statement M
 put-scan-spec =

@@ -1,6 +1,9 @@
 -- `commands::put_unknown` writes its two bytes side by side.
-use Rattle.commands.specs.Print.{unknownLine}
-use Rattle.commands.specs.Print.Edit.{wrote-both}
+use mathlib.Core.Path.{ap}
+use native.Mathlib.Omega.{arith}
+use lib.ListN.{length}
+use Rattle.commands.specs.Text.Edit.{wrote-both}
+use Rattle.commands.specs.Text.Lines.{unknown-is}
 use borrow.Author.Needs.{needs}
 use Rattle.commands.proofs.put_unknown.Statement.{statement}
 use Rattle.commands.proofs.put_unknown.Tie as tie
@@ -15,8 +18,10 @@ same-length : tie.Need-same-length
 same-length c = search needs
 
 returns : tie.Need-returns
-unfolding unknownLine
-returns c = wrote-both (c .before .before .before .before .before .before .put-byte .ensures) (c .before .before .put-byte2 .ensures)
+returns c = record {
+  wrote = rw unknown-is (wrote-both (c .before .before .before .before .before .before .put-byte .ensures) (c .before .before .put-byte2 .ensures));
+  short = omega (arith, ap length unknown-is);
+}
 
 pub put-unknown-spec : {M : Type 1} → statement M
 put-unknown-spec = tie.close (tie.spec put-byte-requires put-byte-requires-2 same-length returns)

@@ -2,7 +2,7 @@
 use mathlib.Core.Path.{_∙_, sym}
 use native.Mathlib.Omega.{arith}
 use borrow.Author.Tests.{eq-eqb, ne-eqb}
-use Rattle.commands.specs.Line.Fields.{command-other, command-letter, command-short, command-numbers}
+use Rattle.commands.specs.Text.Fields.{command-other, command-letter, command-short, command-numbers}
 use borrow.Author.Needs.{needs}
 use Rattle.commands.proofs.read_command.Statement.{statement}
 use Rattle.commands.proofs.read_command.Tie as tie
@@ -22,13 +22,13 @@ returns-2 : tie.Need-returns-2
 returns-2 c =
     let f = c .before .before .before .before in
     let a = f .before .before .args in
-    sym (command-letter (a .line .now) (c .before .if2 .taken) (sym (f .find .ensures .0) ∙ c .before .before .before .if1 .left) ∙ rw (eq-eqb _ _ (c .if3 .taken)))
+    sym (command-letter (a .line .now) (sym (f .find .ensures .0) ∙ c .before .before .before .if1 .left) (c .before .if2 .taken) ∙ rw (eq-eqb _ _ (c .if3 .taken)))
 
 returns-3 : tie.Need-returns-3
 returns-3 c =
     let f = c .before .before .before .before in
     let a = f .before .before .args in
-    sym (command-letter (a .line .now) (c .before .if2 .taken) (sym (f .find .ensures .0) ∙ c .before .before .before .if1 .left) ∙ rw (ne-eqb _ _ (c .if3 .left)))
+    sym (command-letter (a .line .now) (sym (f .find .ensures .0) ∙ c .before .before .before .if1 .left) (c .before .if2 .taken) ∙ rw (ne-eqb _ _ (c .if3 .left)))
 
 find-requires-2 : tie.Need-find-requires-2
 find-requires-2 c κs = search needs

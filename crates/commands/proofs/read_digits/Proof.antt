@@ -4,8 +4,8 @@ use mathlib.Core.Path.{_≡_, _∙_, sym}
 use native.Mathlib.Omega.{arith}
 use borrow.Author.Needs.{needs}
 use lib.ListN.{length, drop}
-use Rattle.commands.specs.Number.{numberFrom}
-use Rattle.commands.specs.Number.Reading.{from-end, from-over, from-low, from-high, from-digit}
+use Rattle.commands.specs.Text.{numberFrom}
+use Rattle.commands.specs.Text.Reading.{from-end, from-over, from-low, from-high, from-digit}
 use Rattle.commands.proofs.read_digits.Statement.{statement}
 use Rattle.commands.proofs.read_digits.Tie as tie
 

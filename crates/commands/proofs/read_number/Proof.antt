@@ -2,7 +2,7 @@
 use Prim.Native.Nat.{_+_}
 use mathlib.Core.Path.{_∙_, sym}
 use native.Mathlib.Omega.{arith}
-use Rattle.commands.specs.Number.Reading.{number-none, number-one, number-zero, number-many}
+use Rattle.commands.specs.Text.Reading.{number-none, number-one, number-zero, number-many}
 use borrow.Author.Needs.{needs}
 use Rattle.commands.proofs.read_number.Statement.{statement}
 use Rattle.commands.proofs.read_number.Tie as tie

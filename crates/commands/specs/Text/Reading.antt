@@ -2,16 +2,16 @@
 -- spoils it for good.
 use Prim.Native.Nat.{ℕ, _+_, _-_, _*_, _≤_, _<_}
 use mathlib.Core.Path.{_≡_, refl, _∙_}
-use mathlib.Core.Bool.{Bool, true, false, cond, _&&_, and-false}
+use mathlib.Core.Bool.{Bool, true, false, cond, _&&_, and-false, and-eq-true-iff}
 use mathlib.Core.List.{List, [], _∷_}
 use native.Mathlib.Numerals.{add-one}
 use native.Mathlib.Omega.{arith}
-use borrow.Author.Tests.{lt-ltb, le-ltb, le-leb, lt-leb, eq-eqb, ne-eqb}
+use borrow.Author.Tests.{lt-ltb, le-ltb, le-leb, lt-leb, eq-eqb, ne-eqb, ltb-true}
 use lib.Dec.{ltb}
 use lib.ListN.{length, getD, drop, drop-of-length-le}
 use lib.Seq.{drop-cons}
 use Rattle.commands.specs.Bytes.{digit0, digit9}
-use Rattle.commands.specs.Number.{allDigits, noSpareZero, spelled, value, isNumber, numberFrom, numberOf}
+use Rattle.commands.specs.Text.{allDigits, noSpareZero, spelled, value, isNumber, numberFrom, numberOf}
 use Rattle.commands.specs.declared.Number.the-variants.{Value, Malformed}
 
 pub spelled-least : (v : ℕ) (bs : List ℕ) → v ≤ spelled v bs
@@ -92,6 +92,12 @@ module _ (limit : ℕ) where
       good : (t : Bool) → cond t (Value (value bs)) Malformed ≡ Value n → (t ≡ true) × (value bs ≡ n)
       good true e = (refl, cc)
       good false e = let z : _≡_ {A = ℕ} 0 1 = cc in absurd (omega arith)
+
+  pub number-small : (bs : List ℕ) (n : ℕ) → numberOf limit bs ≡ Value n → n < limit
+  unfolding isNumber
+  number-small bs n e =
+      let (good, is) = number-good bs n e in
+      omega (arith, is, ltb-true (value bs) limit (and-eq-true-iff (allDigits bs && noSpareZero bs) (ltb (value bs) limit) .0 good .1))
 
   pub number-bad : (bs : List ℕ) → numberOf limit bs ≡ Malformed → isNumber limit bs ≡ false
   unfolding numberOf

@@ -9,19 +9,19 @@ use native.Mathlib.Decide.{ℕ-discrete}
 use native.Mathlib.Omega.{arith}
 use borrow.Author.Tests.{eq-eqb, ne-eqb}
 use Rattle.commands.specs.Bytes.{space, letterG}
-use Rattle.commands.specs.Number.{allDigits, value, isNumber, decimal}
-use Rattle.commands.specs.Number.Decimal.{decimal-digits, decimal-number, digit-first, number-spelling}
-use Rattle.commands.specs.Line.{before, longer, fieldsOf, named, limitAfter, ofNumbers, ofFields, commandOf}
-use Rattle.commands.specs.Line.Fields.{numbers-both, three-fields, first-field}
+use Rattle.commands.specs.Text.{allDigits, value, isNumber, decimal, longer, pieces, named, limitAfter, ofNumbers, ofFields, commandOf}
+use Rattle.commands.specs.Text.Decimal.{decimal-digits, decimal-number, digit-first, number-spelling}
+use Rattle.commands.specs.Text.Fields.{numbers-both, three-fields}
+use Rattle.commands.specs.Text.Pieces.{together, together-pieces}
 use Rattle.commands.specs.declared.Command.the-variants.{Split, Unknown}
 
 -- A letter and two numbers, each after one space.
-unfoldable pub spelling : ℕ → ℕ → ℕ → List ℕ
+pub spelling : ℕ → ℕ → ℕ → List ℕ
 spelling letter client number = letter ∷ space ∷ decimal client ++ space ∷ decimal number
 
 -- digits before a space are a field
-digits-field : (ds rest : List ℕ) → allDigits ds ≡ true → fieldsOf (ds ++ space ∷ rest) ≡ ds ∷ fieldsOf rest
-unfolding fieldsOf longer
+digits-field : (ds rest : List ℕ) → allDigits ds ≡ true → pieces space (ds ++ space ∷ rest) ≡ ds ∷ pieces space rest
+unfolding pieces longer
 digits-field [] rest h = refl
 digits-field (d ∷ ds) rest h =
     let (low, high, more) = digit-first d ds h in
@@ -29,30 +29,11 @@ digits-field (d ∷ ds) rest h =
 
 pub read-spelling : (letter client number : ℕ) → (letter ≡ space → ⊥) → client < 2 ^ 64 → number < limitAfter letter
     → commandOf (spelling letter client number) ≡ named letter client number
-unfolding spelling commandOf fieldsOf longer
+unfolding spelling commandOf pieces longer
 read-spelling letter client number letters some more =
     rw (ne-eqb letter space letters, digits-field (decimal client) (decimal number) (decimal-digits client))
     (three-fields letter (decimal client) (decimal number)
     ∙ numbers-both letter (decimal client) (decimal number) client number (decimal-number (2 ^ 64) client some) (decimal-number (limitAfter letter) number more))
-
--- the fields of a line, put together again
-spaced : List (List ℕ) → List ℕ
-spaced [] = []
-spaced (f ∷ []) = f
-spaced (f ∷ g ∷ gs) = f ++ space ∷ spaced (g ∷ gs)
-
-spaced-fields : (l : List ℕ) → spaced (fieldsOf l) ≡ l
-unfolding spaced fieldsOf longer
-spaced-fields [] = refl
-spaced-fields (b ∷ bs) =
-    let (fields, is) = first-field bs in
-    by-cases (ℕ-discrete b space)
-    (λ e. rw (eq-eqb b space e, is) (ap₂ (λ (z : ℕ) (r : List ℕ). z ∷ r) (sym e) (rw is at (spaced-fields bs))))
-    (λ e. rw (ne-eqb b space e, is) (front fields (before space bs) (rw is at (spaced-fields bs))))
-  where
-    front : (fields : List (List ℕ)) (f : List ℕ) → spaced (f ∷ fields) ≡ bs → spaced ((b ∷ f) ∷ fields) ≡ b ∷ bs
-    front [] f h = ap (λ (r : List ℕ). b ∷ r) h
-    front (g ∷ gs) f h = ap (λ (r : List ℕ). b ∷ r) h
 
 -- What a line is read as, and how it is then spelled.
 pub data Spelling (line : List ℕ) : Type 0 where
@@ -62,8 +43,8 @@ pub data Spelling (line : List ℕ) : Type 0 where
       → line ≡ spelling letter client number → Spelling line
 
 pub one-spelling : (line : List ℕ) → Spelling line
-unfolding commandOf ofFields ofNumbers spaced spelling
-one-spelling line = go (fieldsOf line) refl (spaced-fields line)
+unfolding commandOf ofFields ofNumbers spelling
+one-spelling line = go (pieces space line) refl (together-pieces space line)
   where
     both : (letter : ℕ) (one two : List ℕ) (s t : Bool) → isNumber (2 ^ 64) one ≡ s → isNumber (limitAfter letter) two ≡ t
         → commandOf line ≡ ofNumbers letter one two → (letter ∷ space ∷ one ++ space ∷ two) ≡ line → Spelling line
@@ -75,14 +56,14 @@ one-spelling line = go (fieldsOf line) refl (spaced-fields line)
     both letter one two true false good-one bad-two e parts = unknown (e ∙ rw (good-one, bad-two))
     both letter one two false t bad-one second e parts = unknown (e ∙ rw bad-one)
 
-    go : (fields : List (List ℕ)) → fieldsOf line ≡ fields → spaced (fieldsOf line) ≡ line → Spelling line
+    go : (fields : List (List ℕ)) → pieces space line ≡ fields → together space (pieces space line) ≡ line → Spelling line
     go [] e parts = unknown (ap ofFields e)
     go ([] ∷ fields) e parts = unknown (ap ofFields e)
     go ((letter ∷ []) ∷ []) e parts = by-cases (ℕ-discrete letter letterG)
-        (λ g. splits (ap ofFields e ∙ rw (eq-eqb letter letterG g)) (sym parts ∙ ap spaced e ∙ ap (λ (z : ℕ). z ∷ []) g))
+        (λ g. splits (ap ofFields e ∙ rw (eq-eqb letter letterG g)) (sym parts ∙ ap (together space) e ∙ ap (λ (z : ℕ). z ∷ []) g))
         (λ g. unknown (ap ofFields e ∙ rw (ne-eqb letter letterG g)))
     go ((letter ∷ []) ∷ one ∷ []) e parts = unknown (ap ofFields e)
     go ((letter ∷ []) ∷ one ∷ two ∷ []) e parts =
-        both letter one two (isNumber (2 ^ 64) one) (isNumber (limitAfter letter) two) refl refl (ap ofFields e) (sym (ap spaced e) ∙ parts)
+        both letter one two (isNumber (2 ^ 64) one) (isNumber (limitAfter letter) two) refl refl (ap ofFields e) (sym (ap (together space) e) ∙ parts)
     go ((letter ∷ []) ∷ one ∷ two ∷ three ∷ fields) e parts = unknown (ap ofFields e)
     go ((letter ∷ next ∷ more) ∷ fields) e parts = unknown (ap ofFields e)

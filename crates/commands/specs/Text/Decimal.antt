@@ -12,7 +12,7 @@ use lib.Dec.{leb, ltb, eqb}
 use lib.ListN.{length, length-append}
 use lib.Seq.{append-snoc}
 use Rattle.commands.specs.Bytes.{digit0, digit9}
-use Rattle.commands.specs.Number.{allDigits, noSpareZero, spelled, value, isNumber, numberOf, decimalWithin, decimal}
+use Rattle.commands.specs.Text.{allDigits, noSpareZero, spelled, value, isNumber, numberOf, decimalWithin, decimal}
 use Rattle.commands.specs.declared.Number.the-variants.{Value}
 
 -- what bounds the recursion is enough if it is above the number
