@@ -1,9 +1,9 @@
 // The calls of the library for C, each with the contract of the crate that has it.
 ghost use mathlib.Core.Path.{_≡_};
 ghost use Rattle.address.specs.Rules.{parent};
-ghost use Rattle.client.specs.Table.{Joined, join};
-ghost use Rattle.file.specs.File.{Checked, Created, Splitted, check, create, split};
-ghost use Rattle.ride.specs.Call.{Outcome, search, insert, forwardsIn};
+ghost use Rattle.client.specs.Table.{join};
+ghost use Rattle.file.specs.File.{check, create, split};
+ghost use Rattle.ride.specs.Call.{search, insert, forwardsIn};
 ghost use Rattle.lhstar.specs.View.{viewStart, viewLength};
 
 // A split's reply, the old bucket and the new; with 7 the unsound one.

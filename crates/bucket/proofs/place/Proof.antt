@@ -1,7 +1,6 @@
 -- `bucket::place` writes mark, key and payload one behind the other, which is the slot's bytes, and then the count.
 use Prim.Native.Nat.{_+_}
 use mathlib.Core.Path.{refl, ap, _∙_}
-use native.Mathlib.Omega.{arith}
 use Rattle.layout.specs.Bytes.{leBytes, edit}
 use Rattle.bucket.specs.Region.{slotAt}
 use Rattle.bucket.specs.Region.Write.{put-slot}

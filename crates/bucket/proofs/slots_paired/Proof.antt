@@ -4,7 +4,6 @@ use Prim.Native.Nat.{ℕ, _-_}
 use mathlib.Core.Path.{_≡_, refl, sym, ap, _∙_}
 use mathlib.Core.Bool.{true, false, _&&_}
 use mathlib.Core.List.{_∷_, []}
-use native.Mathlib.Omega.{arith}
 use lib.Dec.{eqb}
 use Rattle.address.specs.Rules.{keeps}
 use Rattle.layout.specs.Bytes.{allBelow, firstFrom}

@@ -1,6 +1,6 @@
 -- A bucket divided in place: each ride is written behind those that stay and, in the new region, behind those that move, of which one group grows.
 -- What was not yet read is as it was, since no group is longer than what was read; then heads and zeros make two regions of the bytes.
-use Prim.Native.Nat.{ℕ, suc, _+_, _*_, _-_, _≤_, _<_}
+use Prim.Native.Nat.{ℕ, _+_, _*_, _-_, _≤_, _<_}
 use mathlib.Core.Path.{_≡_, refl, sym, ap, ap₂, subst, _∙_}
 use mathlib.Core.Bool.{Bool, true, false, cond, not}
 use mathlib.Core.List.{List, [], _∷_, _++_, append-nil}
@@ -11,7 +11,7 @@ use native.Mathlib.Numerals.{add-one}
 use native.Mathlib.Omega.{arith}
 use lib.ListN.{length, getD, take, drop, replicate, length-append, length-drop, length-replicate}
 use lib.Seq.{length-take-le}
-use Rattle.layout.specs.Bytes.{Bytes, leAt, leBytes, allBelow, edit, part}
+use Rattle.layout.specs.Bytes.{Bytes, leAt, allBelow, edit, part}
 use Rattle.layout.specs.Bytes.Tests.{all-at}
 use Rattle.layout.specs.Bytes.Apart.{Apart, edit-apart, edit-over, edit-same, part-same, lent}
 use Rattle.layout.specs.Bytes.Edit.{length-edit, edit-in, edit-next, edit-all, part-is, part-edit, part-before, part-after, part-split, part-part, part-bytes, length-part}

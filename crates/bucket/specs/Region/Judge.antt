@@ -9,14 +9,13 @@ use native.Mathlib.Numerals.{add-one}
 use native.Mathlib.Omega.{arith}
 use borrow.Author.Tests.{eq-eqb, leb-true, not-true, not-false}
 use lib.Dec.{leb, eqb}
-use lib.ListN.{length, getD, take, drop, set, length-set, length-drop}
-use lib.Seq.{take-suc-set, take-all}
+use lib.ListN.{length, take, drop, length-drop}
+use lib.Seq.{take-all}
 use Rattle.address.specs.Compare.{below}
 use Rattle.address.specs.Rules.{hash, keeps}
 use Rattle.address.specs.Rules.Cases.{keeps-is}
 use Rattle.layout.specs.Bytes.{byteAt, leAt, marked, allBelow, allZero, part}
 use Rattle.layout.specs.Bytes.Tests.{all-none, all-more, and-left, and-right, and-both, and-none}
-use Rattle.layout.specs.Bytes.Edit.{part-cons, part-end, part-front}
 use Rattle.bucket.specs.Region.{Ride, bucketMark, slotAt, countOf, levelOf, headFormed, slotUsed, keyAt, rideAt, ridesFrom, ridesOf, keysOf, every, distinct, headSound, soundWith}
 use Rattle.bucket.specs.Region.Rides.{keys-append, distinct-append}
 

@@ -7,28 +7,49 @@ use mathlib.Core.List.{List, [], _∷_, _++_, List·Memᴰ, List·Memᴰ·head, 
 use mathlib.Core.Logic.{_⊎_, inl, inr, ⊎-elim, _↔_}
 use native.Mathlib.Nat.{add-zero, zero-add}
 use native.Mathlib.Omega.{arith}
-use borrow.Author.Tests.{eq-eqb}
+use borrow.Author.Tests.{eq-eqb, eqb-true}
 use lib.Dec.{eqb}
-use lib.ListN.{length, getD, take, length-append}
-use lib.Seq.{getD-take}
+use lib.ListN.{length, getD, length-append, length-map}
 use Rattle.address.specs.declared.Image.{Image}
 use Rattle.address.specs.Rules.{Formed, buckets, address, level, keeps}
 use Rattle.layout.specs.Bytes.{Bytes, firstFrom}
-use Rattle.layout.specs.Bytes.Tests.{and-left, and-right, and-both, first-within, first-before, first-same}
+use Rattle.layout.specs.Bytes.Tests.{and-left, and-right, and-both, first-within, first-passes, first-before}
 use Rattle.bucket.specs.Region.{Ride, Whole, slotAt, countOf, keyAt, rideAt, ridesFrom, ridesOf, keysOf, every, distinct, soundWith, bucketSound, slotOf, encode, kept}
 use Rattle.bucket.specs.Region.Rides.{AllWhole, whole-append, keys-append, every-append, distinct-append, kept-whole, kept-passes, kept-distinct, kept-lengths, kept-in, kept-ind}
 use Rattle.bucket.specs.Region.Judge.{fresh-from}
-use Rattle.bucket.specs.Region.Sound.{Parts, sound-count, sound-whole, rides-encode, encode-sound, bucket-judged, bucket-parts}
+use Rattle.bucket.specs.Region.Sound.{Parts, length-rides, sound-count, sound-whole, rides-encode, encode-sound, bucket-judged, bucket-parts}
+
+-- the keys of the slots, one by one
+key-at : (region : List ℕ) (k c i : ℕ) → i < c → getD (keysOf (ridesFrom region k c)) i 0 ≡ keyAt region (k + i)
+unfolding ridesFrom keysOf rideAt
+key-at region k zero i h = absurd (omega arith)
+key-at region k (suc c) zero h = ap (keyAt region) (sym (add-zero k))
+key-at region k (suc c) (suc i) h = key-at region (suc k) c i (omega arith) ∙ ap (keyAt region) moved
+  where
+    moved : suc k + i ≡ k + suc i
+    moved = omega arith
+
+pub keys-at : (region : List ℕ) (k : ℕ) → k < countOf region → getD (keysOf (ridesOf region)) k 0 ≡ keyAt region k
+unfolding ridesOf
+keys-at region k h = key-at region 0 (countOf region) k h ∙ ap (keyAt region) (zero-add k)
+
+pub keys-count : (region : List ℕ) → length (keysOf (ridesOf region)) ≡ countOf region
+unfolding keysOf ridesOf
+keys-count region = length-map (ridesFrom region 0 (countOf region)) (λ ride. ride .key) ∙ length-rides region 0 (countOf region)
 
 -- the slot of a key, as a search from the first slot on finds it
 pub slot-is : (region : List ℕ) (key : ℕ) → firstFrom (λ k. eqb (keyAt region k) key) (countOf region) 0 ≡ slotOf region key
 unfolding slotOf
 slot-is region key = refl
 
--- a slot is found within the count
+-- a slot is found within the count, and it holds the key unless it is the count
 pub slot-most : (region : List ℕ) (key : ℕ) → slotOf region key ≤ countOf region
 unfolding slotOf
 slot-most region key = omega (arith, first-within (λ k. eqb (keyAt region k) key) (countOf region) 0)
+
+pub slot-holds : (region : List ℕ) (key : ℕ) → slotOf region key < countOf region → keyAt region (slotOf region key) ≡ key
+unfolding slotOf
+slot-holds region key h = eqb-true _ _ (first-passes (λ k. eqb (keyAt region k) key) (countOf region) 0 (omega arith))
 
 -- a key that no slot holds is fresh
 pub fresh : (region : List ℕ) (key : ℕ) → slotOf region key ≡ countOf region → every (λ other. not (eqb other key)) (keysOf (ridesOf region)) ≡ true

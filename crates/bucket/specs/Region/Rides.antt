@@ -1,11 +1,15 @@
--- Lists of rides and of their keys: one ride more, and the rides that a test keeps.
-use Prim.Native.Nat.{ℕ, suc, _+_}
-use mathlib.Core.Path.{_≡_, refl, ap, ap₂, _∙_}
-use mathlib.Core.Bool.{Bool, true, false, cond, not, _&&_}
+-- Lists of rides and of their keys: one ride more, how often a key stands in them, and the rides that a test keeps.
+use Prim.Native.Nat.{ℕ, suc, _+_, _≤_}
+use mathlib.Core.Path.{_≡_, refl, sym, ap, ap₂, _∙_}
+use mathlib.Core.Bool.{Bool, true, false, cond, not, _&&_, true≢false}
 use mathlib.Core.List.{List, [], _∷_, _++_}
+use mathlib.Core.Logic.{⊎-elim}
 use native.Mathlib.Omega.{arith}
+use borrow.Author.Tests.{eq-eqb}
 use lib.Dec.{eqb}
 use lib.ListN.{length}
+use Rattle.address.specs.Compare.{same}
+use Rattle.address.specs.Rules.Scan.{times, times-none, times-here, times-there}
 use Rattle.layout.specs.Bytes.Tests.{and-left, and-right, and-both}
 use Rattle.bucket.specs.Region.{Ride, Whole, keysOf, every, distinct, kept}
 
@@ -55,6 +59,30 @@ distinct-append (first ∷ keys) key =
     go true false true d = refl
     go true false false d = refl
     go false b c d = refl
+
+-- a key that fails a test which all pass stands nowhere among them, and distinct keys stand there once at the most
+pub every-times : (test : ℕ → Bool) (keys : List ℕ) (key : ℕ) → every test keys ≡ true → test key ≡ false → times key keys ≡ 0
+unfolding every
+every-times test [] key all fails = times-none key
+every-times test (first ∷ keys) key all fails =
+    times-there key first keys (λ e. true≢false (sym (and-left (test first) _ all) ∙ ap test (sym e) ∙ fails))
+    ∙ every-times test keys key (and-right (test first) _ all) fails
+
+pub distinct-times : (keys : List ℕ) (key : ℕ) → distinct keys ≡ true → times key keys ≤ 1
+unfolding distinct
+distinct-times [] key single = omega (arith, times-none key)
+distinct-times (first ∷ keys) key single = ⊎-elim
+    (λ e. omega (
+      arith,
+      times-here key first keys e,
+      every-times (λ other. not (eqb first other)) keys key (and-left _ (distinct keys) single) (ap not (eq-eqb first key (sym e))),
+    ))
+    (λ e. omega (
+      arith,
+      times-there key first keys e,
+      distinct-times keys key (and-right (every (λ other. not (eqb first other)) keys) (distinct keys) single),
+    ))
+    (same key first)
 
 -- ---- what a test keeps
 

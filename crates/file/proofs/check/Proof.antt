@@ -1,5 +1,4 @@
 -- `file::check` judges the header and then each region: 5, 7 with the lowest unsound one, or 0.
-use mathlib.Core.Path.{_≡_}
 use native.Mathlib.Omega.{arith}
 use borrow.Author.Tests.{not-true, not-false}
 use Rattle.file.specs.File.Judge.{known, unknown}

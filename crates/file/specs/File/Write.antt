@@ -2,19 +2,18 @@
 use Prim.Native.Nat.{ℕ, _+_, _-_, _≤_, _<_, min}
 use mathlib.Core.Path.{_≡_, refl, sym, ap, ap₂, _∙_}
 use mathlib.Core.Bool.{Bool, true, _&&_}
-use mathlib.Core.List.{List, [], _∷_, _++_, append-assoc, append-nil}
+use mathlib.Core.List.{List, [], _∷_, _++_, append-nil}
 use mathlib.Core.Logic.{by-cases}
 use native.Mathlib.Decide.{decLt}
 use native.Mathlib.Nat.{zero-add}
 use native.Mathlib.Omega.{arith}
 use lib.Dec.{leb, eqb}
 use lib.ListN.{length, getD, take, drop, length-take, length-drop}
-use lib.Seq.{drop-drop}
 use Rattle.address.specs.Limits.{firstBuckets}
 use Rattle.address.specs.declared.Image.{Image}
 use Rattle.layout.specs.Bytes.{Bytes, leAt, leBytes, marked, allZero, edit, part}
 use Rattle.layout.specs.Bytes.Apart.{lent}
-use Rattle.layout.specs.Bytes.Edit.{length-edit, edit-before, edit-in, edit-after, part-edit, part-before, part-after, part-at, part-is, same-bytes, edit-is, edit-bytes, part-bytes}
+use Rattle.layout.specs.Bytes.Edit.{length-edit, edit-before, edit-in, edit-after, part-edit, part-before, part-after, part-at, part-is, same-bytes, edit-bytes, part-bytes}
 use Rattle.layout.specs.Bytes.Tests.{and-left, and-both}
 use Rattle.layout.specs.Bytes.Numbers.{le-same, le-back, length-leBytes}
 use Rattle.address.specs.Rules.{address, level}

@@ -1,6 +1,5 @@
 -- `ride::put_block` writes the 24 bytes of a block at once.
 use mathlib.Core.Path.{sym, _∙_}
-use native.Mathlib.Omega.{arith}
 use Rattle.layout.specs.Bytes.Edit.{edit-all}
 use Rattle.ride.specs.Call.Block.{block-source}
 use borrow.Author.Needs.{needs}
