@@ -1,0 +1,76 @@
+-- `scan::follow`: the list that was filled is the visit order, so its buckets are scanned.
+use mathlib.Core.Path.{sym, _∙_}
+use native.Mathlib.Omega.{arith}
+use lib.ListN.{take}
+use Rattle.scan.specs.Scan.{visitsOf}
+use Rattle.scan.specs.Scan.Replied.{answered, collected-along}
+use Rattle.scan.specs.Scan.Way.{ready-buckets, ready-scannable, ready-visits, ready-way, ready-length}
+use borrow.Author.Needs.{needs}
+use Rattle.scan.proofs.follow.Statement.{statement}
+use Rattle.scan.proofs.follow.Tie as tie
+
+buckets-requires : tie.Need-buckets-requires
+buckets-requires c κs = search needs
+
+cast-buckets : tie.Need-cast-buckets
+cast-buckets c = search needs
+
+visit-order-requires : tie.Need-visit-order-requires
+visit-order-requires c κs =
+    let given = c .before .before .before .before .before .before .before .pre .0 in
+    (ready-scannable given, omega (arith, c .before .before .before .before .before .before .before .pre .1, ready-buckets given (c .before .buckets .result) (c .before .buckets .ensures), c .before .buckets .ensures))
+
+slice-reshare-prefix-collect : tie.Need-slice-reshare-prefix-collect
+slice-reshare-prefix-collect c =
+    let b = c .before .before .before .before .buckets in
+    omega (arith, c .before .before .visit-order .kept, c .before .before .before .before .before .before .before .before .before .before .pre .1, ready-buckets (c .before .before .before .before .before .before .before .before .before .before .pre .0) (b .result) (b .ensures))
+
+slice-aggregate-collect : tie.Need-slice-aggregate-collect
+slice-aggregate-collect c =
+    let given = c .before .before .before .before .before .before .before .before .before .before .before .pre .0 in
+    let b = c .before .before .before .before .before .buckets in
+    let v = c .before .before .before .visit-order in
+    ready-buckets given (b .result) (b .ensures) ∙ sym (ready-length given (v .last .1 .1 .0) (b .result) (b .ensures) (v .ensures))
+
+collect-requires : tie.Need-collect-requires
+collect-requires c κs =
+    let given = c .before .before .before .before .before .before .before .before .before .before .before .before .before .pre .0 in
+    let b = c .before .before .before .before .before .before .before .buckets in
+    let v = c .before .before .before .before .before .visit-order in (
+      given .known,
+      ready-way given (v .last .1 .1 .0) (b .result) (b .ensures) (v .ensures),
+      omega (arith, c .before .before .before .before .before .before .before .before .before .before .before .before .before .pre .2, ready-length given (v .last .1 .1 .0) (b .result) (b .ensures) (v .ensures)),
+    )
+
+same-length : tie.Need-same-length
+same-length c = search needs
+
+same-length-2 : tie.Need-same-length-2
+same-length-2 c = search needs
+
+same-length-3 : tie.Need-same-length-3
+same-length-3 c = search needs
+
+returns : tie.Need-returns
+returns c =
+    let a = c .before .before .before .before .before .before .before .before .before .before .before .before .before .before .before .before .before .before .args in
+    let b = c .before .before .before .before .before .before .before .before .before .before .before .before .buckets in
+    let v = c .before .before .before .before .before .before .before .before .before .before .visit-order in
+    let r = c .before .before .before .before .collect in
+    collected-along (a .file .now) (a .lift) (a .visits .now) (a .matches .now) (answered (r .result) (r .last .1 .1 .1 .1 .0) (r .last .1 .1 .1 .1 .1 .0)) (take (b .result) (v .last .1 .1 .0)) (visitsOf (a .file .now) (a .image)) (r .ensures)
+    (ready-visits (c .before .before .before .before .before .before .before .before .before .before .before .before .before .before .before .before .before .before .pre .0) (v .last .1 .1 .0) (b .result) (b .ensures) (v .ensures))
+
+pub follow-spec : {M : Type 1} → statement M
+follow-spec =
+    tie.close
+    (tie.spec
+    buckets-requires
+    cast-buckets
+    visit-order-requires
+    slice-reshare-prefix-collect
+    slice-aggregate-collect
+    collect-requires
+    same-length
+    same-length-2
+    same-length-3
+    returns)

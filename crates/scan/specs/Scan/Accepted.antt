@@ -1,0 +1,223 @@
+-- A scan is refused or accepted. Refused, it answers counts 0 and leaves both lists; accepted, it has written each bucket of the file once and nothing else,
+-- and of its lift exactly the keys that the file holds, each once; what stands behind them in the lists is as it was.
+use Prim.Native.Nat.{ℕ, _+_, _-_, _≤_, _<_}
+use mathlib.Core.Path.{_≡_, refl, sym, ap, _∙_}
+use mathlib.Core.Bool.{Bool, true, false, cond}
+use mathlib.Core.List.{List, [], _∷_}
+use mathlib.Core.Logic.{_⊎_, inl, inr, ⊎-elim}
+use native.Mathlib.Nat.{zero-add}
+use native.Mathlib.Omega.{arith}
+use lib.ListN.{length, take, drop}
+use lib.Seq.{take-append-seam, drop-append-seam}
+use Rattle.address.specs.Compare.{below, same}
+use Rattle.address.specs.Limits.{firstBuckets, noBucket}
+use Rattle.address.specs.Rules.{Formed, NotAhead, buckets, lastRound, highest}
+use Rattle.address.specs.Rules.Cases.{buckets-is}
+use Rattle.address.specs.Rules.Address.{address-exists}
+use Rattle.address.specs.Rules.Scan.{times, times-none, times-here, times-there, rounds}
+use Rattle.layout.specs.Bytes.{edit}
+use Rattle.layout.specs.Bytes.Edit.{edit-is}
+use Rattle.layout.specs.Replies.{reply}
+use Rattle.client.specs.Table.{imageOf}
+use Rattle.client.specs.Table.Laws.{record-image}
+use Rattle.file.specs.File.{stateOf, bucketsOf, bucketSoundIn, fileSound}
+use Rattle.file.specs.File.Judge.{header-ranges, buckets-of}
+use Rattle.file.specs.File.Kept.{sound-bucket}
+use Rattle.ride.specs.Call.{early, everyOn, held}
+use Rattle.ride.specs.Call.Kept.{Passed, passed}
+use Rattle.ride.specs.Call.Route.{every-none}
+use Rattle.scan.specs.Scan.{Scanned, ofLift, keysIn, matchesOn, visitsOf, firstUnsound, scan}
+use Rattle.scan.specs.Scan.Found.{own, once, elsewhere, held-times, other-times, visited}
+use Rattle.scan.specs.Scan.Replied.{answered, refusal, collected-unsound, collected-short, collected-done, scan-early, scan-short, scan-long}
+use Rattle.scan.specs.Scan.Way.{every-first, every-next, way-length, way-once, way-only}
+
+-- a write at a list's start, and what it leaves behind it
+front-written : (ys xs : List ℕ) → take (length ys) (edit 0 ys xs) ≡ ys
+front-written ys xs = ap (take (length ys)) (edit-is 0 ys xs) ∙ take-append-seam ys (drop (0 + length ys) xs)
+
+rest-left : (ys xs : List ℕ) → drop (length ys) (edit 0 ys xs) ≡ drop (length ys) xs
+rest-left ys xs = ap (drop (length ys)) (edit-is 0 ys xs) ∙ drop-append-seam ys (drop (0 + length ys) xs) ∙ ap (λ (n : ℕ). drop n xs) (zero-add (length ys))
+
+-- a test that all pass passes at what stands among them
+every-among : (test : ℕ → Bool) (way : List ℕ) (a : ℕ) → everyOn test way ≡ true → 0 < times a way → test a ≡ true
+every-among test [] a all some = absurd (omega (arith, times-none a))
+every-among test (b ∷ way) a all some =
+    let first = every-first test b way all in
+    ⊎-elim
+    (λ e. ap test e ∙ first)
+    (λ e. every-among test way a (sym (every-next test b way first) ∙ all) (omega (arith, times-there a b way e)))
+    (same a b)
+
+-- and a test that passes at each number below a bound passes on a way below it
+every-below : (test : ℕ → Bool) (most : ℕ) → ((a : ℕ) → a < most → test a ≡ true) → (way : List ℕ) → ((a : ℕ) → most ≤ a → times a way ≡ 0) → everyOn test way ≡ true
+every-below test most each [] low = every-none test
+every-below test most each (a ∷ way) low = ⊎-elim
+    (λ h. every-next test a way (each a h) ∙ every-below test most each way (λ b past. omega (arith, low b past, later b)))
+    (λ past. absurd (omega (arith, low a past, times-here a a way refl)))
+    (below a most)
+  where
+    later : (b : ℕ) → times b way ≤ times b (a ∷ way)
+    later b = ⊎-elim (λ e. omega (arith, times-here b a way e)) (λ e. omega (arith, times-there b a way e)) (same b a)
+
+module _ (file table : List ℕ) (client lift : ℕ) (visits matches : List ℕ) where
+  abbrev way : List ℕ
+  way = visitsOf file (imageOf table client)
+
+  abbrev keys : List ℕ
+  keys = matchesOn file lift way
+
+  abbrev outcome : Scanned
+  outcome = scan file table client lift visits matches
+
+  pub record Refused : Type 0 where
+    pub number : ℕ
+    pub bucket : ℕ
+    pub some : number ≡ 0 → ⊥
+    pub none : (number ≡ 7 → ⊥) → bucket ≡ noBucket
+    pub is : outcome ≡ answered (refusal number bucket) visits matches
+
+  pub record Accepted : Type 0 where
+    pub passes : Passed file table client
+    pub sound : everyOn (bucketSoundIn file) way ≡ true
+    pub is : outcome ≡ record { answer = 0; bucket = noBucket; visits = length way; matches = length keys; visitList = edit 0 way visits; matchList = edit 0 keys matches }
+
+  refused-with : (r a : ℕ) → (r ≡ 0 → ⊥) → ((r ≡ 7 → ⊥) → a ≡ noBucket) → answered (refusal r a) visits matches ≡ outcome → Refused ⊎ Accepted
+  refused-with r a some none e = inl (record { number = r; bucket = a; some = some; none = none; is = sym e })
+
+  pub scan-cases : Refused ⊎ Accepted
+  scan-cases = ⊎-elim opened
+      (λ some. refused-with (reply (early file table client) 0) noBucket some (λ h. refl) (scan-early file table client lift visits matches (refusal (reply (early file table client) 0) noBucket) (reply (early file table client) 0) refl refl some))
+      (same (reply (early file table client) 0) 0)
+    where
+      opened : reply (early file table client) 0 ≡ 0 → Refused ⊎ Accepted
+      opened zero = ⊎-elim
+          (λ short. refused-with 11 noBucket (λ h. omega arith) (λ h. refl) (scan-short file table client lift visits matches zero (refusal 11 noBucket) refl short))
+          (λ long. judged long (everyOn (bucketSoundIn file) way) refl)
+          (below (length visits) (bucketsOf file))
+        where
+          judged : bucketsOf file ≤ length visits → (b : Bool) → everyOn (bucketSoundIn file) way ≡ b → Refused ⊎ Accepted
+          judged long false bad = refused-with 7 (firstUnsound file way) (λ h. omega arith) (λ h. absurd (h refl))
+              (scan-long file table client lift visits matches zero long (answered (refusal 7 (firstUnsound file way)) visits matches) way
+              (collected-unsound file lift way visits matches (refusal 7 (firstUnsound file way)) (firstUnsound file way) refl bad refl) refl)
+          judged long true fine = ⊎-elim
+              (λ short. refused-with 12 noBucket (λ h. omega arith) (λ h. refl)
+              (scan-long file table client lift visits matches zero long (answered (refusal 12 noBucket) visits matches) way
+              (collected-short file lift way visits matches fine (refusal 12 noBucket) refl short) refl))
+              (λ room. inr (record {
+                passes = passed file table client zero;
+                sound = fine;
+                is = sym (scan-long file table client lift visits matches zero long _ way
+                    (collected-done file lift way visits matches fine room (length keys) (edit 0 way visits) (edit 0 keys matches) refl refl refl) refl);
+              }))
+              (below (length matches) (length keys))
+
+  -- a refused scan answers counts 0 and leaves both lists; the bucket's number is 65,535 with any reply but 7
+  pub scan-refused : (outcome .answer ≡ 0 → ⊥) → (outcome .visits ≡ 0) × (outcome .matches ≡ 0) × (outcome .visitList ≡ visits) × (outcome .matchList ≡ matches)
+  scan-refused some = ⊎-elim
+      (λ r. (
+        ap (λ (o : Scanned). o .visits) (r .is),
+        ap (λ (o : Scanned). o .matches) (r .is),
+        ap (λ (o : Scanned). o .visitList) (r .is),
+        ap (λ (o : Scanned). o .matchList) (r .is),
+      ))
+      (λ a. absurd (some (ap (λ (o : Scanned). o .answer) (a .is))))
+      scan-cases
+
+  pub scan-bucket : (outcome .answer ≡ 7 → ⊥) → outcome .bucket ≡ noBucket
+  scan-bucket other = ⊎-elim
+      (λ r. ap (λ (o : Scanned). o .bucket) (r .is) ∙ r .none (λ e. other (ap (λ (o : Scanned). o .answer) (r .is) ∙ e)))
+      (λ a. ap (λ (o : Scanned). o .bucket) (a .is))
+      scan-cases
+
+  -- ---- the way of a scan that has passed 2 to 6
+
+  existing : bucketsOf file ≡ buckets firstBuckets (stateOf file)
+  existing = buckets-of file ∙ sym (buckets-is firstBuckets (stateOf file))
+
+  module _ (passes : Passed file table client) where
+    formed : Formed firstBuckets (stateOf file)
+    formed = header-ranges file (passes .header-sound) .formed
+
+    believes : Formed firstBuckets (imageOf table client)
+    believes = record-image table client (passes .image-sound) .1
+
+    near : NotAhead firstBuckets (stateOf file) (imageOf table client)
+    near = omega (arith, passes .behind, existing)
+
+    visits-length : length way ≡ bucketsOf file
+    visits-length = way-length file (passes .header-sound) (imageOf table client) believes near
+
+    visits-once : (a : ℕ) → a < bucketsOf file → times a way ≡ 1
+    visits-once = way-once file (passes .header-sound) (imageOf table client) believes near
+
+    visits-only : (a : ℕ) → bucketsOf file ≤ a → times a way ≡ 0
+    visits-only = way-only file (passes .header-sound) (imageOf table client) believes near
+
+    -- in a sound file it has no unsound bucket
+    pub scan-file-sound : fileSound file ≡ true → everyOn (bucketSoundIn file) way ≡ true
+    scan-file-sound sound = every-below (bucketSoundIn file) (bucketsOf file) (sound-bucket file sound) way visits-only
+
+    -- and its last round is at most the highest bucket level less i'
+    pub scan-rounds : lastRound firstBuckets (stateOf file) (imageOf table client) ≤ highest firstBuckets (stateOf file) - imageOf table client .level
+    scan-rounds = rounds firstBuckets (omega arith) (stateOf file) formed (imageOf table client) believes near
+
+  -- ---- an accepted scan
+
+  module _ (done : outcome .answer ≡ 0) where
+    accepted : Accepted
+    accepted = ⊎-elim (λ r. absurd (r .some (sym (ap (λ (o : Scanned). o .answer) (r .is)) ∙ done))) (λ a. a) scan-cases
+
+    -- the visits are the defined order, and the entries past them keep their content
+    pub scan-visits : take (outcome .visits) (outcome .visitList) ≡ way
+    scan-visits = ap (λ (o : Scanned). take (o .visits) (o .visitList)) (accepted .is) ∙ front-written way visits
+
+    pub scan-visits-rest : drop (outcome .visits) (outcome .visitList) ≡ drop (outcome .visits) visits
+    scan-visits-rest = ap (λ (o : Scanned). drop (o .visits) (o .visitList)) (accepted .is) ∙ rest-left way visits
+        ∙ ap (λ (o : Scanned). drop (o .visits) visits) (sym (accepted .is))
+
+    -- each bucket of the file is visited exactly once, and nothing else is
+    pub scan-visits-count : outcome .visits ≡ bucketsOf file
+    scan-visits-count = ap (λ (o : Scanned). o .visits) (accepted .is) ∙ visits-length (accepted .passes)
+
+    pub scan-visits-once : (a : ℕ) → a < bucketsOf file → times a (take (outcome .visits) (outcome .visitList)) ≡ 1
+    scan-visits-once a h = ap (times a) scan-visits ∙ visits-once (accepted .passes) a h
+
+    pub scan-visits-only : (a : ℕ) → bucketsOf file ≤ a → times a (take (outcome .visits) (outcome .visitList)) ≡ 0
+    scan-visits-only a h = ap (times a) scan-visits ∙ visits-only (accepted .passes) a h
+
+    -- every bucket of the file is sound
+    pub scan-sound : (a : ℕ) → a < bucketsOf file → bucketSoundIn file a ≡ true
+    scan-sound a h = every-among (bucketSoundIn file) way a (accepted .sound) (omega (arith, visits-once (accepted .passes) a h))
+
+    -- the matches are the defined ones, and the entries past them keep their content
+    pub scan-matches : take (outcome .matches) (outcome .matchList) ≡ keys
+    scan-matches = ap (λ (o : Scanned). take (o .matches) (o .matchList)) (accepted .is) ∙ front-written keys matches
+
+    pub scan-matches-rest : drop (outcome .matches) (outcome .matchList) ≡ drop (outcome .matches) matches
+    scan-matches-rest = ap (λ (o : Scanned). drop (o .matches) (o .matchList)) (accepted .is) ∙ rest-left keys matches
+        ∙ ap (λ (o : Scanned). drop (o .matches) matches) (sym (accepted .is))
+
+    -- a key of another lift stands nowhere among them
+    pub scan-matches-other : (key : ℕ) → ofLift lift key ≡ false → times key (take (outcome .matches) (outcome .matchList)) ≡ 0
+    scan-matches-other key other = ap (times key) scan-matches ∙ other-times file key lift other way
+
+    module _ (key : ℕ) (match : ofLift lift key ≡ true) where
+      exists : own file key < bucketsOf file
+      exists = omega (arith, existing, address-exists firstBuckets (omega arith) (stateOf file) (formed (accepted .passes)) key)
+
+      in-own : times key (take (outcome .matches) (outcome .matchList)) ≡ times key (keysIn file (own file key))
+      in-own = ap (times key) scan-matches ∙ visited file key lift match way (accepted .sound) (visits-once (accepted .passes) (own file key) exists)
+
+      -- a key of the scan's lift stands there exactly once if search finds it held, and else never
+      pub scan-matches-held : times key (take (outcome .matches) (outcome .matchList)) ≡ cond (held file key) 1 0
+      scan-matches-held = in-own ∙ held-times file key (scan-sound (own file key) exists)
+
+      -- exactly once if any bucket of the file holds it, and never if none does
+      pub scan-matches-once : (a : ℕ) → a < bucketsOf file → 0 < times key (keysIn file a) → times key (take (outcome .matches) (outcome .matchList)) ≡ 1
+      scan-matches-once a h some = ⊎-elim
+          (λ e. omega (arith, in-own, ap (λ (b : ℕ). times key (keysIn file b)) e, once file key a (scan-sound a h)))
+          (λ e. absurd (omega (arith, elsewhere file key a (scan-sound a h) e)))
+          (same (own file key) a)
+
+      pub scan-matches-never : ((a : ℕ) → a < bucketsOf file → times key (keysIn file a) ≡ 0) → times key (take (outcome .matches) (outcome .matchList)) ≡ 0
+      scan-matches-never none = in-own ∙ none (own file key) exists

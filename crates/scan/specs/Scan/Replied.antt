@@ -1,0 +1,67 @@
+-- A scan's outcome by its cases, in the replies' order; and no second outcome fits.
+use Prim.Native.Nat.{ℕ, _≤_, _<_}
+use mathlib.Core.Path.{_≡_, sym, ap, _∙_}
+use mathlib.Core.Bool.{true, false}
+use mathlib.Core.List.{List}
+use borrow.Author.Tests.{eq-eqb, ne-eqb, lt-ltb, le-ltb}
+use lib.ListN.{length}
+use Rattle.address.specs.Limits.{noBucket}
+use Rattle.layout.specs.Bytes.{edit}
+use Rattle.layout.specs.Replies.{reply}
+use Rattle.client.specs.Table.{imageOf}
+use Rattle.file.specs.File.{bucketsOf, bucketSoundIn}
+use Rattle.ride.specs.Call.{early, everyOn}
+use Rattle.scan.specs.declared.ScanAnswer.{ScanAnswer}
+use Rattle.scan.specs.Scan.{Scanned, matchesOn, visitsOf, firstUnsound, refused, collected, scan}
+
+-- what a call answers, with the lists as it leaves them
+abbrev pub answered : ScanAnswer → List ℕ → List ℕ → Scanned
+answered r visits matches =
+    record { answer = r .reply; bucket = r .bucket; visits = r .visits; matches = r .matches; visitList = visits; matchList = matches }
+
+abbrev pub refusal : ℕ → ℕ → ScanAnswer
+refusal r a = record { reply = r; bucket = a; visits = 0; matches = 0 }
+
+module _ (file : List ℕ) (lift : ℕ) (way visits matches : List ℕ) where
+  pub collected-unsound : (r : ScanAnswer) (a : ℕ) → r ≡ refusal 7 a → everyOn (bucketSoundIn file) way ≡ false → a ≡ firstUnsound file way
+      → answered r visits matches ≡ collected file lift way visits matches
+  unfolding collected refused
+  collected-unsound r a er bad e = rw bad (λ i. answered ((er ∙ ap (refusal 7) e) i) visits matches)
+
+  module _ (fine : everyOn (bucketSoundIn file) way ≡ true) where
+    pub collected-short : (r : ScanAnswer) → r ≡ refusal 12 noBucket → length matches < length (matchesOn file lift way)
+        → answered r visits matches ≡ collected file lift way visits matches
+    unfolding collected refused
+    collected-short r er short = rw (fine, lt-ltb (length matches) (length (matchesOn file lift way)) short) (λ i. answered (er i) visits matches)
+
+    pub collected-done : length (matchesOn file lift way) ≤ length matches → (m : ℕ) (first second : List ℕ) → m ≡ length (matchesOn file lift way)
+        → first ≡ edit 0 way visits → second ≡ edit 0 (matchesOn file lift way) matches
+        → record { answer = 0; bucket = noBucket; visits = length way; matches = m; visitList = first; matchList = second } ≡ collected file lift way visits matches
+    unfolding collected
+    collected-done room m first second em ef es = rw (fine, le-ltb (length matches) (length (matchesOn file lift way)) room)
+        (λ i. record { answer = 0; bucket = noBucket; visits = length way; matches = em i; visitList = ef i; matchList = es i })
+
+-- along an equal way
+pub collected-along : (file : List ℕ) (lift : ℕ) (visits matches : List ℕ) (o : Scanned) (way same : List ℕ) → o ≡ collected file lift way visits matches → way ≡ same
+    → o ≡ collected file lift same visits matches
+collected-along file lift visits matches o way same eo ew = eo ∙ ap (λ (w : List ℕ). collected file lift w visits matches) ew
+
+module _ (file table : List ℕ) (client lift : ℕ) (visits matches : List ℕ) where
+  pub scan-early : (r : ScanAnswer) (n : ℕ) → r ≡ refusal n noBucket → n ≡ reply (early file table client) 0 → (n ≡ 0 → ⊥)
+      → answered r visits matches ≡ scan file table client lift visits matches
+  unfolding scan refused
+  scan-early r n er e some = rw (ne-eqb (reply (early file table client) 0) 0 (λ z. some (e ∙ z))) (λ i. answered ((er ∙ ap (λ (m : ℕ). refusal m noBucket) e) i) visits matches)
+
+  module _ (none : reply (early file table client) 0 ≡ 0) where
+    pub scan-short : (r : ScanAnswer) → r ≡ refusal 11 noBucket → length visits < bucketsOf file → answered r visits matches ≡ scan file table client lift visits matches
+    unfolding scan refused
+    scan-short r er short = rw (eq-eqb (reply (early file table client) 0) 0 none, lt-ltb (length visits) (bucketsOf file) short) (λ i. answered (er i) visits matches)
+
+    pub scan-long : bucketsOf file ≤ length visits → (o : Scanned) (way : List ℕ) → o ≡ collected file lift way visits matches
+        → way ≡ visitsOf file (imageOf table client) → o ≡ scan file table client lift visits matches
+    unfolding scan
+    scan-long long o way eo ew = rw (eq-eqb (reply (early file table client) 0) 0 none, le-ltb (length visits) (bucketsOf file) long)
+        (collected-along file lift visits matches o way (visitsOf file (imageOf table client)) eo ew)
+
+  pub scan-single : (o p : Scanned) → o ≡ scan file table client lift visits matches → p ≡ scan file table client lift visits matches → o ≡ p
+  scan-single o p eo ep = eo ∙ sym ep

@@ -1,0 +1,240 @@
+// The scan of one lift: the buckets are judged in visit order and their matches counted, then both lists
+// are written.
+use address::Image;
+use file::Header;
+ghost use mathlib.Core.Path.{_≡_};
+ghost use mathlib.Core.Bool.{true};
+ghost use Prim.Native.Nat.{_+_, _≤_, _<_};
+ghost use lib.ListN.{length, take};
+ghost use Rattle.layout.specs.Bytes.{edit};
+ghost use Rattle.bucket.specs.Region.{countOf};
+ghost use Rattle.file.specs.File.{bucketsOf, regionOf, bucketSoundIn};
+ghost use Rattle.file.specs.File.Judge.{Known};
+ghost use Rattle.ride.specs.Call.{everyOn};
+ghost use Rattle.scan.specs.Scan.{Scanned, ofLift, matching, keysIn, matchesOn, visitsOf, collected, scan};
+ghost use Rattle.scan.specs.Scan.Tally.{Judged};
+ghost use Rattle.scan.specs.Scan.Way.{Ready, Way};
+
+// A scan's reply, the unsound bucket with 7, and how many entries each list got.
+#[repr(C)]
+pub struct ScanAnswer {
+    pub reply: u32,
+    pub bucket: u32,
+    pub visits: u32,
+    pub matches: u32,
+}
+
+// Whether every bucket of a way is sound, the first that is not, and how many keys match if all are.
+struct Tally {
+    sound: bool,
+    bucket: u32,
+    matches: u32,
+}
+
+// A visit's bucket number.
+fn number(visit: u16) -> u32
+    ensures { λ r. ⌜ r ≡ visit ⌝ }
+{
+    visit as u32
+}
+
+// Whether a key is of a lift.
+fn of_lift(key: u64, lift: u32) -> bool
+    ensures { λ r. ⌜ r ≡ ofLift lift key ⌝ }
+{
+    key / 4294967296 == lift as u64
+}
+
+// How many of the first keys are of a lift.
+fn count_matches(keys: &[u64], count: usize, lift: u32) -> u32
+    requires { ⌜ (count ≤ length (now keys)) × (count ≤ 64) ⌝ }
+    ensures { λ r. ⌜ r ≡ length (matching lift (take count (now (keys .entry)))) ⌝ }
+{
+    let mut found = 0;
+    let mut k = 0;
+    while k < count {
+        if of_lift(keys[k], lift) {
+            found = found + 1;
+        }
+        k = k + 1;
+    }
+    found
+}
+
+// How many records a sound bucket holds.
+fn held(file: &[u8], header: Header, bucket: u32) -> usize
+    requires { ⌜ Known (now file) header × (bucket < bucketsOf (now file)) × (bucketSoundIn (now file) bucket ≡ true) ⌝ }
+    ensures { λ r. ⌜ (r ≡ countOf (regionOf (now (file .entry)) bucket)) × (r ≤ 64) ⌝ }
+{
+    let at = file::start(header.slots, bucket);
+    layout::read2(file, at + 4) as usize
+}
+
+// Judges the buckets of a way up to the first unsound one, and counts the matches if there is none.
+fn judge_way(file: &[u8], header: Header, way: &[u16], lift: u32, keys: &mut [u64]) -> Tally
+    requires { ⌜ Known (now file) header × Way (now file) (now way) × (length (now keys) ≡ 64) ⌝ }
+    ensures { λ r. ⌜ Judged (now (file .entry)) lift (now (way .entry)) (r .sound) (r .bucket) (r .matches) ⌝ }
+{
+    let mut matches = 0;
+    let mut k = 0;
+    while k < way.len() {
+        let bucket = number(way[k]);
+        if !file::bucket_sound(file, header, bucket, keys) {
+            return Tally {
+                sound: false,
+                bucket,
+                matches: 0,
+            };
+        }
+        matches = matches + count_matches(keys, held(file, header, bucket), lift);
+        k = k + 1;
+    }
+    Tally {
+        sound: true,
+        bucket: address::NO_BUCKET,
+        matches,
+    }
+}
+
+// Writes the visited bucket numbers.
+fn put_visits(way: &[u16], visits: &mut [u16])
+    requires { ⌜ length (now way) ≤ length (now visits) ⌝ }
+    ensures { λ _. ⌜ now (visits .exit) ≡ edit 0 (now (way .entry)) (now (visits .entry)) ⌝ }
+{
+    let mut k = 0;
+    while k < way.len() {
+        visits[k] = way[k];
+        k = k + 1;
+    }
+}
+
+// Writes the matching keys of a sound bucket from a place on, and answers the place behind them.
+fn put_bucket(
+    file: &[u8],
+    header: Header,
+    bucket: u32,
+    lift: u32,
+    matches: &mut [u64],
+    from: usize,
+) -> usize
+    requires { ⌜ Known (now file) header × (bucket < bucketsOf (now file)) × (bucketSoundIn (now file) bucket ≡ true) × (from + length (matching lift (keysIn (now file) bucket)) ≤ length (now matches)) ⌝ }
+    ensures { λ r. ⌜ (r ≡ from + length (matching lift (keysIn (now (file .entry)) bucket))) × (now (matches .exit) ≡ edit from (matching lift (keysIn (now (file .entry)) bucket)) (now (matches .entry))) ⌝ }
+{
+    let at = file::start(header.slots, bucket);
+    let count = held(file, header, bucket);
+    let mut filled = from;
+    let mut k = 0;
+    while k < count {
+        let key = layout::read8(file, at + (10 + 24 * k));
+        if of_lift(key, lift) {
+            matches[filled] = key;
+            filled = filled + 1;
+        }
+        k = k + 1;
+    }
+    filled
+}
+
+// Writes the matching keys of a way of sound buckets.
+fn put_matches(file: &[u8], header: Header, way: &[u16], lift: u32, matches: &mut [u64])
+    requires { ⌜ Known (now file) header × Way (now file) (now way) × (everyOn (bucketSoundIn (now file)) (now way) ≡ true) × (length (matchesOn (now file) lift (now way)) ≤ length (now matches)) ⌝ }
+    ensures { λ _. ⌜ now (matches .exit) ≡ edit 0 (matchesOn (now (file .entry)) lift (now (way .entry))) (now (matches .entry)) ⌝ }
+{
+    let mut filled = 0;
+    let mut k = 0;
+    while k < way.len() {
+        filled = put_bucket(file, header, number(way[k]), lift, matches, filled);
+        k = k + 1;
+    }
+}
+
+// A refused scan's answer.
+fn refused_scan(reply: u32, bucket: u32) -> ScanAnswer
+    ensures { λ r. ⌜ r ≡ record { reply = reply; bucket = bucket; visits = 0; matches = 0 } ⌝ }
+{
+    ScanAnswer {
+        reply,
+        bucket,
+        visits: 0,
+        matches: 0,
+    }
+}
+
+// Scans the buckets of a way: 7, 12, else both lists are written.
+fn collect(
+    file: &[u8],
+    header: Header,
+    way: &[u16],
+    lift: u32,
+    visits: &mut [u16],
+    matches: &mut [u64],
+) -> ScanAnswer
+    requires { ⌜ Known (now file) header × Way (now file) (now way) × (length (now way) ≤ length (now visits)) ⌝ }
+    ensures { λ r. ⌜ record { answer = r .reply; bucket = r .bucket; visits = r .visits; matches = r .matches; visitList = now (visits .exit); matchList = now (matches .exit) } ≡ collected (now (file .entry)) lift (now (way .entry)) (now (visits .entry)) (now (matches .entry)) ⌝ }
+{
+    let mut keys = [0u64; 64];
+    let found = judge_way(file, header, way, lift, &mut keys);
+    if !found.sound {
+        return refused_scan(7, found.bucket);
+    }
+    if matches.len() < found.matches as usize {
+        return refused_scan(12, address::NO_BUCKET);
+    }
+    put_visits(way, visits);
+    put_matches(file, header, way, lift, matches);
+    ScanAnswer {
+        reply: 0,
+        bucket: address::NO_BUCKET,
+        visits: way.len() as u32,
+        matches: found.matches,
+    }
+}
+
+// Fills a list with the visit order of a client's image, and scans the buckets on it.
+fn follow(
+    file: &[u8],
+    header: Header,
+    image: Image,
+    order: &mut [u16],
+    lift: u32,
+    visits: &mut [u16],
+    matches: &mut [u64],
+) -> ScanAnswer
+    requires { ⌜ Ready (now file) header image × (bucketsOf (now file) ≤ length (now order)) × (bucketsOf (now file) ≤ length (now visits)) ⌝ }
+    ensures { λ r. ⌜ record { answer = r .reply; bucket = r .bucket; visits = r .visits; matches = r .matches; visitList = now (visits .exit); matchList = now (matches .exit) } ≡ collected (now (file .entry)) lift (visitsOf (now (file .entry)) image) (now (visits .entry)) (now (matches .entry)) ⌝ }
+{
+    let state = header.state;
+    let buckets = address::buckets(address::FIRST_BUCKETS, state) as usize;
+    order::visit_order(state, image, order);
+    collect(file, header, &order[..buckets], lift, visits, matches)
+}
+
+// Scans a file for one lift through a client: 2 to 6, 11, 7, 12, else 0. The order of a file of few buckets
+// goes into a short list, which is cleared sooner.
+pub fn scan(
+    file: &[u8],
+    table: &[u8],
+    client: u64,
+    lift: u32,
+    visits: &mut [u16],
+    matches: &mut [u64],
+) -> ScanAnswer
+    ensures { λ r. ⌜ record { answer = r .reply; bucket = r .bucket; visits = r .visits; matches = r .matches; visitList = now (visits .exit); matchList = now (matches .exit) } ≡ scan (now (file .entry)) (now (table .entry)) client lift (now (visits .entry)) (now (matches .entry)) ⌝ }
+{
+    let opened = ride::open(file, table, client);
+    if opened.reply != 0 {
+        return refused_scan(opened.reply as u32, address::NO_BUCKET);
+    }
+    let header = opened.header;
+    let image = opened.image;
+    let buckets = address::buckets(address::FIRST_BUCKETS, header.state) as usize;
+    if visits.len() < buckets {
+        return refused_scan(11, address::NO_BUCKET);
+    }
+    if buckets <= 256 {
+        let mut few = [0u16; 256];
+        return follow(file, header, image, &mut few, lift, visits, matches);
+    }
+    let mut order = [0u16; 4096];
+    follow(file, header, image, &mut order, lift, visits, matches)
+}
