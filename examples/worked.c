@@ -13,6 +13,8 @@ static uint8_t file[LHSTAR_FILE_BYTES(SLOTS, MOST)];
 static uint8_t table[LHSTAR_CLIENT_BYTES];
 static uint8_t answer[LHSTAR_ANSWER_BYTES];
 static const uint8_t payload[LHSTAR_PAYLOAD_BYTES];
+static uint16_t visits[MOST];
+static uint64_t matches[MOST];
 
 static unsigned number_at(const uint8_t *bytes)
 {
@@ -70,6 +72,25 @@ static void ask(const char *name, size_t length, unsigned long long key)
     printf("\n");
 }
 
+/* A scan that finds nothing: where it went, and the image then. */
+static void sweep(const char *name, size_t length)
+{
+    struct lhstar_scan_answer scan;
+    unsigned k;
+
+    printf("%s ", name);
+    print_state();
+    printf(", ");
+    print_image();
+    scan = lhstar_scan(file, length, table, sizeof table, 0, 0, visits, MOST, matches, MOST);
+    printf(", scan: reply %u, visits", (unsigned)scan.reply);
+    for (k = 0; k < scan.visits; k++)
+        printf(" %u", visits[k]);
+    printf(", matches %u; ", (unsigned)scan.matches);
+    print_image();
+    printf("\n");
+}
+
 static void print_split(const char *name, size_t length)
 {
     struct lhstar_split_answer split;
@@ -107,6 +128,12 @@ int main(void)
     length = make(MOST, 7);
     believe(2, 3);
     ask("P5", length, 7);
+    length = make(MOST, 5);
+    believe(1, 1);
+    sweep("P6", length);
+    length = make(MOST, 7);
+    believe(0, 0);
+    sweep("P7", length);
     length = make(MOST, 0);
     believe(0, 0);
     ask("P8", length, 0);

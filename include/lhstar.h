@@ -1,8 +1,9 @@
 /*
  * lhstar: an LH* file over lent memory.
  *
- * The caller lends every buffer as a pointer and a length in bytes. No pointer is null, also not
- * with length 0, and the buffers of one call do not overlap. The library keeps nothing between
+ * The caller lends every buffer as a pointer and a length in bytes, the two lists of a scan as a
+ * pointer and a length in entries. No pointer is null, also not with length 0, and the buffers of
+ * one call do not overlap. The library keeps nothing between
  * calls: the file buffer is the file, the table buffer holds the clients' images. Numbers of more
  * than one byte are little-endian.
  *
@@ -120,6 +121,30 @@ struct lhstar_split_answer {
  * Replies: 5, 10, 7 (bucket n, then the new region), else 0. Refused, it leaves the file untouched.
  */
 struct lhstar_split_answer lhstar_split(uint8_t *file, size_t file_length);
+
+/*
+ * With 7 the unsound bucket, else LHSTAR_NO_BUCKET; with 0 how many entries the visit list and the
+ * match list got, else 0 and 0.
+ */
+struct lhstar_scan_answer {
+    uint32_t reply;
+    uint32_t bucket;
+    uint32_t visits;
+    uint32_t matches;
+};
+
+/*
+ * Scans every bucket by the client's image for the keys of one lift. It writes the numbers of the
+ * buckets as they are visited, and the matching keys: visit order, then slot order. The lengths are
+ * in entries; entries past those written keep their content.
+ * Replies: 2, 3, 4, 5, 6, 11, 7 (the first unsound bucket in visit order), 12, else 0. Refused, it
+ * leaves both lists untouched. File and table always stay untouched.
+ */
+struct lhstar_scan_answer lhstar_scan(const uint8_t *file, size_t file_length,
+                                      const uint8_t *table, size_t table_length,
+                                      uint64_t client, uint32_t lift,
+                                      uint16_t *visits, size_t visits_length,
+                                      uint64_t *matches, size_t matches_length);
 
 /* With 7 the lowest unsound region, else LHSTAR_NO_BUCKET. */
 struct lhstar_check_answer {

@@ -4,7 +4,7 @@ ghost use mathlib.Core.Path.{_≡_};
 ghost use Prim.Native.Nat.{_+_, _*_, _≤_, _<_};
 ghost use lib.ListN.{length};
 ghost use Rattle.layout.specs.Replies.{reply};
-ghost use Rattle.client.specs.Table.{imageOf, recordFormed, imageFormed, recordSound, tableRefusals, withImage, join};
+ghost use Rattle.client.specs.Table.{Joined, imageOf, recordFormed, imageFormed, recordSound, tableRefusals, withImage, join};
 
 // A client's record, judged.
 pub struct Client {

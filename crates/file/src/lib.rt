@@ -5,10 +5,10 @@ ghost use mathlib.Core.Bool.{true, false};
 ghost use Prim.Native.Nat.{_+_, _*_, _≤_, _<_};
 ghost use lib.ListN.{length, set};
 ghost use Rattle.layout.specs.Bytes.{edit, leBytes};
-ghost use Rattle.bucket.specs.Region.{countOf};
+ghost use Rattle.bucket.specs.Region.{Ride, countOf};
 ghost use Rattle.address.specs.Rules.{newborn};
 ghost use Rattle.file.specs.File.Judge.{Known};
-ghost use Rattle.file.specs.File.{withRide, divided, split, fileMark, figuresFit, stateFits, headerOf, bucketsOf, mostOf, startOf, withState, regionOf, bucketSoundIn, regionSound, lowestUnsound, check, view, create};
+ghost use Rattle.file.specs.File.{Checked, Created, Splitted, withRide, divided, split, fileMark, figuresFit, stateFits, headerOf, bucketsOf, mostOf, startOf, withState, regionOf, bucketSoundIn, regionSound, lowestUnsound, check, view, create};
 
 // A file's header, read and judged; of an unsound one nothing is known.
 pub struct Header {

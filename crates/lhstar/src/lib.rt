@@ -1,25 +1,14 @@
 // The calls of the library for C, each with the contract of the crate that has it.
+use file::CheckAnswer;
+use file::SplitAnswer;
+use scan::ScanAnswer;
 ghost use mathlib.Core.Path.{_≡_};
 ghost use Rattle.address.specs.Rules.{parent};
-ghost use Rattle.client.specs.Table.{join};
-ghost use Rattle.file.specs.File.{check, create, split};
-ghost use Rattle.ride.specs.Call.{search, insert, forwardsIn};
+ghost use Rattle.client.specs.Table.{Joined, join};
+ghost use Rattle.file.specs.File.{Checked, Created, Splitted, check, create, split};
+ghost use Rattle.ride.specs.Call.{Outcome, search, insert, forwardsIn};
+ghost use Rattle.scan.specs.Scan.{Scanned, scan};
 ghost use Rattle.lhstar.specs.View.{viewStart, viewLength};
-
-// A split's reply, the old bucket and the new; with 7 the unsound one.
-#[repr(C)]
-pub struct SplitAnswer {
-    pub reply: u32,
-    pub old_bucket: u32,
-    pub new_bucket: u32,
-}
-
-// A check's reply, and the lowest unsound region with 7.
-#[repr(C)]
-pub struct CheckAnswer {
-    pub reply: u32,
-    pub bucket: u32,
-}
 
 // Where a part of the file starts, and its length; 0 and 0 where it is empty.
 #[repr(C)]
@@ -86,12 +75,22 @@ pub extern "C" fn lhstar_forwards(answer: &[u8]) -> u32
 pub extern "C" fn lhstar_split(file: &mut [u8]) -> SplitAnswer
     ensures { λ r. ⌜ record { answer = r .reply; old = r .«old_bucket»; new = r .«new_bucket»; file = now (file .exit) } ≡ split (now (file .entry)) ⌝ }
 {
-    let answer = file::split(file);
-    SplitAnswer {
-        reply: answer.reply,
-        old_bucket: answer.old_bucket,
-        new_bucket: answer.new_bucket,
-    }
+    file::split(file)
+}
+
+// Scans a file for one lift through a client.
+#[no_mangle]
+pub extern "C" fn lhstar_scan(
+    file: &[u8],
+    table: &[u8],
+    client: u64,
+    lift: u32,
+    visits: &mut [u16],
+    matches: &mut [u64],
+) -> ScanAnswer
+    ensures { λ r. ⌜ record { answer = r .reply; bucket = r .bucket; visits = r .visits; matches = r .matches; visitList = now (visits .exit); matchList = now (matches .exit) } ≡ scan (now (file .entry)) (now (table .entry)) client lift (now (visits .entry)) (now (matches .entry)) ⌝ }
+{
+    scan::scan(file, table, client, lift, visits, matches)
 }
 
 // Checks a whole file.
@@ -99,11 +98,7 @@ pub extern "C" fn lhstar_split(file: &mut [u8]) -> SplitAnswer
 pub extern "C" fn lhstar_check(file: &[u8]) -> CheckAnswer
     ensures { λ r. ⌜ record { answer = r .reply; bucket = r .bucket } ≡ check (now (file .entry)) ⌝ }
 {
-    let answer = file::check(file);
-    CheckAnswer {
-        reply: answer.reply,
-        bucket: answer.bucket,
-    }
+    file::check(file)
 }
 
 // Where the used slots of a bucket stand in the file.

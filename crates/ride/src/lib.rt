@@ -15,7 +15,7 @@ ghost use Rattle.bucket.specs.Region.{countOf, slotOf};
 ghost use Rattle.file.specs.File.{stateOf, bucketsOf, startOf, regionOf, bucketSoundIn};
 ghost use Rattle.file.specs.File.Judge.{Known};
 ghost use Rattle.layout.specs.Replies.{reply};
-ghost use Rattle.ride.specs.Call.{searched, search, placed, insert, wayOf, early, noted, block, noPayload, forwardsIn};
+ghost use Rattle.ride.specs.Call.{Outcome, searched, search, placed, insert, wayOf, early, noted, block, noPayload, forwardsIn};
 ghost use Rattle.ride.specs.Call.After.{Reached};
 ghost use Rattle.ride.specs.Call.Block.{shown};
 ghost use Rattle.ride.specs.Call.Open.{Opening};
