@@ -5,7 +5,7 @@ use file::Header;
 ghost use mathlib.Core.Path.{_≡_};
 ghost use mathlib.Core.Bool.{true};
 ghost use Prim.Native.Nat.{_+_, _≤_, _<_};
-ghost use lib.ListN.{length, take};
+ghost use lib.ListN.{length};
 ghost use Rattle.layout.specs.Bytes.{edit};
 ghost use Rattle.bucket.specs.Region.{countOf};
 ghost use Rattle.file.specs.File.{bucketsOf, regionOf, bucketSoundIn};
@@ -45,22 +45,6 @@ fn of_lift(key: u64, lift: u32) -> bool
     key / 4294967296 == lift as u64
 }
 
-// How many of the first keys are of a lift.
-fn count_matches(keys: &[u64], count: usize, lift: u32) -> u32
-    requires { ⌜ (count ≤ length (now keys)) × (count ≤ 64) ⌝ }
-    ensures { λ r. ⌜ r ≡ length (matching lift (take count (now (keys .entry)))) ⌝ }
-{
-    let mut found = 0;
-    let mut k = 0;
-    while k < count {
-        if of_lift(keys[k], lift) {
-            found = found + 1;
-        }
-        k = k + 1;
-    }
-    found
-}
-
 // How many records a sound bucket holds.
 fn held(file: &[u8], header: Header, bucket: u32) -> usize
     requires { ⌜ Known (now file) header × (bucket < bucketsOf (now file)) × (bucketSoundIn (now file) bucket ≡ true) ⌝ }
@@ -70,23 +54,41 @@ fn held(file: &[u8], header: Header, bucket: u32) -> usize
     layout::read2(file, at + 4) as usize
 }
 
+// How many keys of a sound bucket are of a lift.
+fn count_matches(file: &[u8], header: Header, bucket: u32, lift: u32) -> u32
+    requires { ⌜ Known (now file) header × (bucket < bucketsOf (now file)) × (bucketSoundIn (now file) bucket ≡ true) ⌝ }
+    ensures { λ r. ⌜ (r ≡ length (matching lift (keysIn (now (file .entry)) bucket))) × (r ≤ 64) ⌝ }
+{
+    let at = file::start(header.slots, bucket);
+    let count = held(file, header, bucket);
+    let mut found = 0;
+    let mut k = 0;
+    while k < count {
+        if of_lift(layout::read8(file, at + (10 + 24 * k)), lift) {
+            found = found + 1;
+        }
+        k = k + 1;
+    }
+    found
+}
+
 // Judges the buckets of a way up to the first unsound one, and counts the matches if there is none.
-fn judge_way(file: &[u8], header: Header, way: &[u16], lift: u32, keys: &mut [u64]) -> Tally
-    requires { ⌜ Known (now file) header × Way (now file) (now way) × (length (now keys) ≡ 64) ⌝ }
+fn judge_way(file: &[u8], header: Header, way: &[u16], lift: u32) -> Tally
+    requires { ⌜ Known (now file) header × Way (now file) (now way) ⌝ }
     ensures { λ r. ⌜ Judged (now (file .entry)) lift (now (way .entry)) (r .sound) (r .bucket) (r .matches) ⌝ }
 {
     let mut matches = 0;
     let mut k = 0;
     while k < way.len() {
         let bucket = number(way[k]);
-        if !file::bucket_sound(file, header, bucket, keys) {
+        if !file::bucket_sound(file, header, bucket) {
             return Tally {
                 sound: false,
                 bucket,
                 matches: 0,
             };
         }
-        matches = matches + count_matches(keys, held(file, header, bucket), lift);
+        matches = matches + count_matches(file, header, bucket, lift);
         k = k + 1;
     }
     Tally {
@@ -172,8 +174,7 @@ fn collect(
     requires { ⌜ Known (now file) header × Way (now file) (now way) × (length (now way) ≤ length (now visits)) ⌝ }
     ensures { λ r. ⌜ record { answer = r .reply; bucket = r .bucket; visits = r .visits; matches = r .matches; visitList = now (visits .exit); matchList = now (matches .exit) } ≡ collected (now (file .entry)) lift (now (way .entry)) (now (visits .entry)) (now (matches .entry)) ⌝ }
 {
-    let mut keys = [0u64; 64];
-    let found = judge_way(file, header, way, lift, &mut keys);
+    let found = judge_way(file, header, way, lift);
     if !found.sound {
         return refused_scan(7, found.bucket);
     }

@@ -1,15 +1,13 @@
 -- Judging and counting: what is left to judge and to count of the way is judged and counted as the whole, turn by turn.
-use Prim.Native.Nat.{ℕ, suc, _+_, _*_, _-_, _/_, _≤_, _<_}
+use Prim.Native.Nat.{ℕ, suc, _+_, _*_, _/_, _≤_, _<_}
 use mathlib.Core.Path.{_≡_, refl, sym, ap, _∙_}
 use mathlib.Core.Bool.{Bool, true, false, true≢false}
 use mathlib.Core.List.{List, [], _∷_, _++_}
 use native.Mathlib.Omega.{arith}
 use lib.Dec.{eqb}
-use lib.ListN.{length, getD, take, drop, length-append}
+use lib.ListN.{length, getD, drop, length-append}
 use Rattle.address.specs.Limits.{noBucket}
-use Rattle.layout.specs.Bytes.{part}
-use Rattle.layout.specs.Bytes.Edit.{part-cons, part-end, part-front}
-use Rattle.bucket.specs.Region.{countOf, ridesOf, keysOf}
+use Rattle.bucket.specs.Region.{countOf}
 use Rattle.bucket.specs.Region.Keep.{keys-count}
 use Rattle.file.specs.File.{regionOf, bucketSoundIn}
 use Rattle.ride.specs.Call.{everyOn}
@@ -44,40 +42,34 @@ match-few lift (key ∷ keys) = go (ofLift lift key) refl (match-few lift keys)
     go false e rest = omega (arith, ap length (match-out lift key keys e))
 
 -- the counting loop: how many were found, and how many are left to find
-pub record Counted (keys : List ℕ) (count lift k found : ℕ) : Type 0 where
-  pub within : k ≤ count
+pub record Counted (keys : List ℕ) (lift k found : ℕ) : Type 0 where
+  pub within : k ≤ length keys
   pub few : found ≤ k
-  pub counted : found + length (matching lift (part k (count - k) keys)) ≡ length (matching lift (take count keys))
+  pub counted : found + length (matching lift (drop k keys)) ≡ length (matching lift keys)
 
-pub count-none : (keys : List ℕ) (count lift : ℕ) → Counted keys count lift 0 0
-count-none keys count lift = record { within = omega arith; few = omega arith; counted = omega (arith, ap (λ (l : List ℕ). length (matching lift l)) all) }
-  where
-    whole : count - 0 ≡ count
-    whole = omega arith
+pub count-none : (keys : List ℕ) (lift : ℕ) → Counted keys lift 0 0
+count-none keys lift = record { within = omega arith; few = omega arith; counted = omega arith }
 
-    all : part 0 (count - 0) keys ≡ take count keys
-    all = ap (λ (n : ℕ). part 0 n keys) whole ∙ part-front count keys
+module _ {keys : List ℕ} {lift k found : ℕ} (so : Counted keys lift k found) where
+  pub count-done : length keys ≤ k → found ≡ length (matching lift keys)
+  count-done end = omega (arith, so .counted, ap (λ (l : List ℕ). length (matching lift l)) (rest-none keys k end), ap length (match-none lift))
 
-module _ {keys : List ℕ} {count lift k found : ℕ} (so : Counted keys count lift k found) where
-  pub count-done : count ≤ k → found ≡ length (matching lift (take count keys))
-  count-done end = omega (arith, so .counted, ap (λ (l : List ℕ). length (matching lift l)) (part-end k count keys end), ap length (match-none lift))
+  module _ (more : k < length keys) (key : ℕ) (here : key ≡ getD keys k 0) where
+    one : length (matching lift (drop k keys)) ≡ length (matching lift (key ∷ drop (k + 1) keys))
+    one = ap (λ (l : List ℕ). length (matching lift l)) (rest-first keys k more ∙ ap (λ (x : ℕ). x ∷ drop (k + 1) keys) (sym here))
 
-  module _ (more : k < count) (long : count ≤ length keys) where
-    one : length (matching lift (part k (count - k) keys)) ≡ length (matching lift (getD keys k 0 ∷ part (k + 1) (count - (k + 1)) keys))
-    one = ap (λ (l : List ℕ). length (matching lift l)) (part-cons k count keys more long)
-
-    pub count-in : ofLift lift (getD keys k 0) ≡ true → Counted keys count lift (k + 1) (found + 1)
+    pub count-in : ofLift lift key ≡ true → Counted keys lift (k + 1) (found + 1)
     count-in h = record {
       within = omega arith;
       few = omega (arith, so .few);
-      counted = omega (arith, so .counted, one, ap length (match-in lift (getD keys k 0) (part (k + 1) (count - (k + 1)) keys) h));
+      counted = omega (arith, so .counted, one, ap length (match-in lift key (drop (k + 1) keys) h));
     }
 
-    pub count-out : ofLift lift (getD keys k 0) ≡ false → Counted keys count lift (k + 1) found
+    pub count-out : ofLift lift key ≡ false → Counted keys lift (k + 1) found
     count-out h = record {
       within = omega arith;
       few = omega (arith, so .few);
-      counted = omega (arith, so .counted, one, ap length (match-out lift (getD keys k 0) (part (k + 1) (count - (k + 1)) keys) h));
+      counted = omega (arith, so .counted, one, ap length (match-out lift key (drop (k + 1) keys) h));
     }
 
 -- ---- the buckets of a way, judged and counted
@@ -85,15 +77,6 @@ module _ {keys : List ℕ} {count lift k found : ℕ} (so : Counted keys count l
 pub keys-in-count : (file : List ℕ) (a : ℕ) → length (keysIn file a) ≡ countOf (regionOf file a)
 unfolding keysIn
 keys-in-count file a = keys-count (regionOf file a)
-
--- the matches among a sound bucket's gathered keys are the bucket's
-pub found-in : (file : List ℕ) (lift a : ℕ) (keys : List ℕ) (count n : ℕ) → take (countOf (regionOf file a)) keys ≡ keysOf (ridesOf (regionOf file a))
-    → count ≡ countOf (regionOf file a) → count ≤ 64 → n ≡ length (matching lift (take count keys)) → (n ≡ length (matching lift (keysIn file a))) × (n ≤ 64)
-unfolding keysIn
-found-in file lift a keys count n gathered counted few found = (is, omega (arith, is, match-few lift (keysIn file a), keys-in-count file a))
-  where
-    is : n ≡ length (matching lift (keysIn file a))
-    is = found ∙ ap (λ (l : List ℕ). length (matching lift l)) (ap (λ (c : ℕ). take c keys) counted ∙ gathered)
 
 pub matches-first : (file : List ℕ) (lift a : ℕ) (way : List ℕ) → matchesOn file lift (a ∷ way) ≡ matching lift (keysIn file a) ++ matchesOn file lift way
 unfolding matchesOn
