@@ -68,13 +68,13 @@ fn slots_paired(region: &[u8], count: usize, first: u32, bucket: u32, level: u32
     used & belong
 }
 
-// A number below 1,024 that keys of different rides and lifts seldom share.
+// A number below 512 that keys of different rides and lifts seldom share.
 fn fingerprint(key: u64) -> usize
-    ensures { λ r. ⌜ (r ≡ fingerprint key) × (r < 1024) ⌝ }
+    ensures { λ r. ⌜ (r ≡ fingerprint key) × (r < 512) ⌝ }
 {
     let ride = key % 4294967296;
     let lift = key / 4294967296;
-    ((ride * 2654435769 + lift * 1500000001) / 4194304 % 1024) as usize
+    ((ride * 2654435769 + lift * 1500000001) / 8388608 % 512) as usize
 }
 
 // Whether a key differs from those of the first slots: of its fingerprint they are the latest, one less than a number
@@ -105,7 +105,7 @@ fn slots_chained(
     latest: &mut [u8],
     before: &mut [u8],
 ) -> bool
-    requires { ⌜ Room first level × (slotAt count ≤ length (now region)) × (count ≤ 64) × (now latest ≡ replicate 1024 0) × (length (now before) ≡ 64) ⌝ }
+    requires { ⌜ Room first level × (slotAt count ≤ length (now region)) × (count ≤ 64) × (now latest ≡ replicate 512 0) × (length (now before) ≡ 64) ⌝ }
     ensures { λ r. ⌜ r ≡ (allBelow (slotUsed (now (region .entry))) count && every (keeps first bucket level) (keysOf (ridesFrom (now (region .entry)) 0 count)) && distinct (keysOf (ridesFrom (now (region .entry)) 0 count))) ⌝ }
 {
     let mut used = true;
@@ -136,7 +136,7 @@ fn slots_sound(region: &[u8], count: usize, first: u32, bucket: u32, level: u32)
     if count <= 8 {
         return slots_paired(region, count, first, bucket, level);
     }
-    let mut latest = [0u8; 1024];
+    let mut latest = [0u8; 512];
     let mut before = [0u8; 64];
     slots_chained(
         region,

@@ -67,7 +67,7 @@ differs-requires c κs =
     (omega (arith, l .inv .2 .within), omega (arith, l .inv .2 .within), l .inv .2 .chained, start .0)
 
 same-length : tie.Need-same-length Inv-loop μ-loop
-same-length c = c .before .before .before .before .before .before .before .before .before .before .loop .inv .2 .wide ∙ sym (ap length (c .before .before .before .before .before .before .before .before .before .before .before .before .before .before .pre .3) ∙ length-replicate {A = ℕ} 1024 0)
+same-length c = c .before .before .before .before .before .before .before .before .before .before .loop .inv .2 .wide ∙ sym (ap length (c .before .before .before .before .before .before .before .before .before .before .before .before .before .before .pre .3) ∙ length-replicate {A = ℕ} 512 0)
 
 same-length-2 : tie.Need-same-length-2 Inv-loop μ-loop
 same-length-2 c = search needs

@@ -18,11 +18,11 @@ use Rattle.bucket.specs.Region.{keyAt, ridesFrom, keysOf, every, distinc
 use Rattle.bucket.specs.Region.Rides.{distinct-append}
 use Rattle.bucket.specs.Region.Judge.{keys-more, fresh-from, stands, distinct-later}
 
--- A number below 1,024 of a key: the upper ten of the lower 32 bits of a product of its ride's 32 bits, to which its lift is added.
+-- A number below 512 of a key: the upper nine of the lower 32 bits of a product of its ride's 32 bits, to which its lift is added.
 pub fingerprint : ℕ → ℕ
-fingerprint key = (key % 4294967296 * 2654435769 + key / 4294967296 * 1500000001) / 4194304 % 1024
+fingerprint key = (key % 4294967296 * 2654435769 + key / 4294967296 * 1500000001) / 8388608 % 512
 
-pub fingerprint-is : (key : ℕ) → (key % 4294967296 * 2654435769 + key / 4294967296 * 1500000001) / 4194304 % 1024 ≡ fingerprint key
+pub fingerprint-is : (key : ℕ) → (key % 4294967296 * 2654435769 + key / 4294967296 * 1500000001) / 8388608 % 512 ≡ fingerprint key
 unfolding fingerprint
 fingerprint-is key = refl
 
@@ -180,22 +180,22 @@ single-done region count k within end single = sym (ap (λ (n : ℕ). distinct (
 
 pub record Chaining (region : List ℕ) (count k : ℕ) (latests before : List ℕ) : Type 0 where
   pub within : k ≤ count
-  pub wide : length latests ≡ 1024
-  pub marks : (mark : ℕ) → mark < 1024 → getD latests mark 0 ≡ latestOf region mark k
+  pub wide : length latests ≡ 512
+  pub marks : (mark : ℕ) → mark < 512 → getD latests mark 0 ≡ latestOf region mark k
   pub chained : Chained region before k
   pub single : distinct (keysOf (ridesFrom region 0 k)) ≡ true
 
-pub chain-none : (region : List ℕ) (count : ℕ) (latests before : List ℕ) → latests ≡ replicate 1024 0 → length before ≡ 64 → Chaining region count 0 latests before
+pub chain-none : (region : List ℕ) (count : ℕ) (latests before : List ℕ) → latests ≡ replicate 512 0 → length before ≡ 64 → Chaining region count 0 latests before
 chain-none region count latests before e long = record {
   within = omega arith;
-  wide = ap length e ∙ length-replicate {A = ℕ} 1024 0;
-  marks = λ mark h. ap (λ (l : List ℕ). getD l mark 0) e ∙ getD-replicate {A = ℕ} 1024 mark 0 0 h ∙ sym (latest-none region mark);
+  wide = ap length e ∙ length-replicate {A = ℕ} 512 0;
+  marks = λ mark h. ap (λ (l : List ℕ). getD l mark 0) e ∙ getD-replicate {A = ℕ} 512 mark 0 0 h ∙ sym (latest-none region mark);
   chained = record { long = long; links = λ j h. absurd (omega arith) };
   single = single-none region;
 }
 
 -- where a key's chain starts
-pub chain-start : (region : List ℕ) (count k : ℕ) (latests before : List ℕ) → Chaining region count k latests before → (mark key : ℕ) → mark ≡ fingerprint key → mark < 1024
+pub chain-start : (region : List ℕ) (count k : ℕ) (latests before : List ℕ) → Chaining region count k latests before → (mark key : ℕ) → mark ≡ fingerprint key → mark < 512
     → (getD latests mark 0 ≡ latestOf region (fingerprint key) k) × (getD latests mark 0 ≤ k)
 chain-start region count k latests before so mark key em small = (so .marks mark small ∙ ap (λ (m : ℕ). latestOf region m k) em, omega (arith, so .marks mark small, latest region mark k .within))
 
@@ -204,7 +204,7 @@ module _ (region : List ℕ) (count k : ℕ) (latests before : List ℕ) (so : C
   pub chain-met : fresh ≡ false → false ≡ distinct (keysOf (ridesFrom region 0 count))
   chain-met h = single-met region k (so .single) fresh ef h count more
 
-  pub chain-more : fresh ≡ true → (mark next : ℕ) → mark ≡ fingerprint (keyAt region k) → mark < 1024 → next ≡ getD latests mark 0
+  pub chain-more : fresh ≡ true → (mark next : ℕ) → mark ≡ fingerprint (keyAt region k) → mark < 512 → next ≡ getD latests mark 0
       → Chaining region count (k + 1) (set latests mark (k + 1)) (set before k next)
   chain-more h mark next em small en = record {
     within = omega arith;
@@ -214,7 +214,7 @@ module _ (region : List ℕ) (count k : ℕ) (latests before : List ℕ) (so : C
     single = single-more region k (so .single) fresh ef h;
   }
     where
-      marks : (other : ℕ) → other < 1024 → getD (set latests mark (k + 1)) other 0 ≡ latestOf region other (k + 1)
+      marks : (other : ℕ) → other < 512 → getD (set latests mark (k + 1)) other 0 ≡ latestOf region other (k + 1)
       marks other l = ⊎-elim
           (λ e. ap (λ (m : ℕ). getD (set latests mark (k + 1)) m 0) e ∙ getD-set-same latests mark (k + 1) 0 (omega (arith, so .wide)) ∙ add-one k
           ∙ sym (ap (latestOf region other) (add-one k) ∙ latest-here region other k (sym em ∙ sym e)))
