@@ -1,0 +1,112 @@
+// A session: a file and four clients, and the commands of an input run on them one after another.
+use commands::Command;
+ghost use mathlib.Core.List.{List};
+ghost use Prim.Native.Nat.{ℕ, _+_, _*_, _≤_};
+ghost use lib.ListN.{length};
+ghost use Rattle.commands.specs.Bytes.{lineFeed};
+ghost use Rattle.commands.specs.Text.{Wrote, lineRoom, pieces, commandOf};
+ghost use Rattle.ridefile.specs.Session.{Done, ranSplit, ranInsert, ranSearch, ranScan, ran, printedFrom, printed};
+
+// Splits, and writes the line.
+fn run_split(file: &mut [u8], out: &mut [u8], at: usize) -> usize
+    requires { ⌜ at + lineRoom 16 ≤ length (now out) ⌝ }
+    ensures { λ r. ⌜ ((table : List ℕ) → Done (ranSplit (now (file .entry)) table) (now (file .exit)) table at (now (out .entry)) (now (out .exit)) r) ⌝ }
+{
+    let answer = file::split(file);
+    commands::put_split(out, at, answer.reply, answer.old_bucket, answer.new_bucket)
+}
+
+// Inserts a ride with a payload of zeros, and writes the line.
+fn run_insert(
+    file: &mut [u8],
+    table: &mut [u8],
+    client: u64,
+    key: u64,
+    out: &mut [u8],
+    at: usize,
+) -> usize
+    requires { ⌜ at + lineRoom 16 ≤ length (now out) ⌝ }
+    ensures { λ r. ⌜ Done (ranInsert (now (file .entry)) (now (table .entry)) client key) (now (file .exit)) (now (table .exit)) at (now (out .entry)) (now (out .exit)) r ⌝ }
+{
+    let payload = [0u8; 14];
+    let mut answer = [0u8; 24];
+    ride::insert(file, table, client, key, &payload, &mut answer);
+    commands::put_ride(out, at, b'I', &answer)
+}
+
+// Searches a key, and writes the line.
+fn run_search(
+    file: &[u8],
+    table: &mut [u8],
+    client: u64,
+    key: u64,
+    out: &mut [u8],
+    at: usize,
+) -> usize
+    requires { ⌜ at + lineRoom 16 ≤ length (now out) ⌝ }
+    ensures { λ r. ⌜ Done (ranSearch (now (file .entry)) (now (table .entry)) client key) (now (file .entry)) (now (table .exit)) at (now (out .entry)) (now (out .exit)) r ⌝ }
+{
+    let mut answer = [0u8; 24];
+    ride::search(file, table, client, key, &mut answer);
+    commands::put_ride(out, at, b'S', &answer)
+}
+
+// Scans for a lift, and writes the line.
+fn run_scan(file: &[u8], table: &[u8], client: u64, lift: u32, out: &mut [u8], at: usize) -> usize
+    requires { ⌜ at + lineRoom 16 ≤ length (now out) ⌝ }
+    ensures { λ r. ⌜ Done (ranScan (now (file .entry)) (now (table .entry)) client lift) (now (file .entry)) (now (table .entry)) at (now (out .entry)) (now (out .exit)) r ⌝ }
+{
+    let mut visits = [0u16; 16];
+    let mut matches = [0u64; 64];
+    let answer = scan::scan(file, table, client, lift, &mut visits, &mut matches);
+    let count = answer.visits as usize;
+    commands::put_scan(out, at, answer.reply, &visits[..count], answer.matches)
+}
+
+// Runs the command that a line is, and writes its line.
+fn run_line(line: &[u8], file: &mut [u8], table: &mut [u8], out: &mut [u8], at: usize) -> usize
+    requires { ⌜ at + lineRoom 16 ≤ length (now out) ⌝ }
+    ensures { λ r. ⌜ Done (ran (now (file .entry)) (now (table .entry)) (commandOf (now (line .entry)))) (now (file .exit)) (now (table .exit)) at (now (out .entry)) (now (out .exit)) r ⌝ }
+{
+    let command = commands::read_command(line);
+    match command {
+        Command::Split => run_split(file, out, at),
+        Command::Insert(client, key) => run_insert(file, table, client, key, out, at),
+        Command::Search(client, key) => run_search(file, table, client, key, out, at),
+        Command::Scan(client, lift) => run_scan(file, table, client, lift, out, at),
+        Command::Unknown => commands::put_unknown(out, at),
+    }
+}
+
+// Runs the lines of an input one after another; what follows the last line feed is no command.
+fn run_lines(input: &[u8], file: &mut [u8], table: &mut [u8], out: &mut [u8]) -> usize
+    requires { ⌜ lineRoom 16 * length (now input) ≤ length (now out) ⌝ }
+    ensures { λ r. ⌜ Wrote 0 (printedFrom (now (file .entry)) (now (table .entry)) (pieces lineFeed (now (input .entry)))) (now (out .entry)) (now (out .exit)) r ⌝ }
+{
+    let mut from = 0;
+    let mut at = 0;
+    while from < input.len() {
+        let end = commands::line_end(input, from);
+        if end == input.len() {
+            return commands::put_unknown(out, at);
+        }
+        at = run_line(&input[from..end], file, table, out, at);
+        from = end + 1;
+    }
+    at
+}
+
+// Makes the file and its clients, runs an input on them, and writes what is printed.
+pub fn run(input: &[u8], out: &mut [u8]) -> usize
+    requires { ⌜ lineRoom 16 * length (now input) ≤ length (now out) ⌝ }
+    ensures { λ r. ⌜ Wrote 0 (printed (now (input .entry))) (now (out .entry)) (now (out .exit)) r ⌝ }
+{
+    let mut file = [0u8; 1680];
+    file::create(&mut file, 2, 4, 16);
+    let mut table = [0u8; 32];
+    client::join(&mut table, 0);
+    client::join(&mut table, 1);
+    client::join(&mut table, 2);
+    client::join(&mut table, 3);
+    run_lines(input, &mut file, &mut table, out)
+}
