@@ -168,6 +168,6 @@ abbrev pub lineRoom : ℕ → ℕ
 lineRoom count = 6 * count + 32
 
 -- What a function that writes a line owes besides: the line takes no more than its room.
-pub record WroteLine (count at : ℕ) (line entry exit : List ℕ) (next : ℕ) : Type 0 where
+pub record WroteLine (room at : ℕ) (line entry exit : List ℕ) (next : ℕ) : Type 0 where
   pub wrote : Wrote at line entry exit next
-  pub short : length line ≤ lineRoom count
+  pub short : length line ≤ room

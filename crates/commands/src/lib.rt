@@ -205,7 +205,7 @@ fn put_joined(out: &mut [u8], at: usize, separator: u8, numbers: &[u16]) -> usiz
 // Writes the line of an unknown command.
 pub fn put_unknown(out: &mut [u8], at: usize) -> usize
     requires { ⌜ at + lineRoom 0 ≤ length (now out) ⌝ }
-    ensures { λ r. ⌜ WroteLine 0 at unknownLine (now (out .entry)) (now (out .exit)) r ⌝ }
+    ensures { λ r. ⌜ WroteLine (lineRoom 0) at unknownLine (now (out .entry)) (now (out .exit)) r ⌝ }
 {
     let next = put_byte(out, at, b'?');
     put_byte(out, next, b'\n')
@@ -225,7 +225,7 @@ fn put_heading(out: &mut [u8], at: usize, letter: u8, reply: u32) -> usize
 // Writes the line of a reply and a route.
 fn put_answer(out: &mut [u8], at: usize, letter: u8, reply: u32, route: &[u16]) -> usize
     requires { ⌜ at + lineRoom (length (now route)) ≤ length (now out) ⌝ }
-    ensures { λ r. ⌜ WroteLine (length (now (route .entry))) at (answerLine letter reply (now (route .entry))) (now (out .entry)) (now (out .exit)) r ⌝ }
+    ensures { λ r. ⌜ WroteLine (lineRoom (length (now (route .entry)))) at (answerLine letter reply (now (route .entry))) (now (out .entry)) (now (out .exit)) r ⌝ }
 {
     let mut next = put_heading(out, at, letter, reply);
     next = put_joined(out, next, b'>', route);
@@ -245,7 +245,7 @@ fn route_count(count: u8) -> usize
 // Writes the line of an insert or a search, by its answer block.
 pub fn put_ride(out: &mut [u8], at: usize, letter: u8, answer: &[u8]) -> usize
     requires { ⌜ (length (now answer) ≡ 24) × (at + lineRoom 3 ≤ length (now out)) ⌝ }
-    ensures { λ r. ⌜ WroteLine 3 at (rideLine letter (now (answer .entry))) (now (out .entry)) (now (out .exit)) r ⌝ }
+    ensures { λ r. ⌜ WroteLine (lineRoom 3) at (rideLine letter (now (answer .entry))) (now (out .entry)) (now (out .exit)) r ⌝ }
 {
     let route = [
         layout::read2(answer, 2) as u16,
@@ -278,7 +278,7 @@ fn put_buckets(out: &mut [u8], at: usize, reply: u32, old: u32, new: u32) -> usi
 // Writes the line of a split.
 pub fn put_split(out: &mut [u8], at: usize, reply: u32, old: u32, new: u32) -> usize
     requires { ⌜ at + lineRoom 2 ≤ length (now out) ⌝ }
-    ensures { λ r. ⌜ WroteLine 2 at (splitLine reply old new) (now (out .entry)) (now (out .exit)) r ⌝ }
+    ensures { λ r. ⌜ WroteLine (lineRoom 2) at (splitLine reply old new) (now (out .entry)) (now (out .exit)) r ⌝ }
 {
     let mut next = put_heading(out, at, b'G', reply);
     next = put_buckets(out, next, reply, old, new);
@@ -301,7 +301,7 @@ fn put_scanned(out: &mut [u8], at: usize, reply: u32, visits: &[u16], matches: u
 // Writes the line of a scan.
 pub fn put_scan(out: &mut [u8], at: usize, reply: u32, visits: &[u16], matches: u32) -> usize
     requires { ⌜ at + lineRoom (length (now visits)) ≤ length (now out) ⌝ }
-    ensures { λ r. ⌜ WroteLine (length (now (visits .entry))) at (scanLine reply (now (visits .entry)) matches) (now (out .entry)) (now (out .exit)) r ⌝ }
+    ensures { λ r. ⌜ WroteLine (lineRoom (length (now (visits .entry)))) at (scanLine reply (now (visits .entry)) matches) (now (out .entry)) (now (out .exit)) r ⌝ }
 {
     let mut next = put_heading(out, at, b'A', reply);
     next = put_scanned(out, next, reply, visits, matches);

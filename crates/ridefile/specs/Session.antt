@@ -1,6 +1,6 @@
 -- The program `ridefile` as document 01 has it: the file and the clients that it makes, what each command comes to, and what is printed.
 pub mod Laws
-use Prim.Native.Nat.{ℕ}
+use Prim.Native.Nat.{ℕ, _*_}
 use mathlib.Core.Path.{_≡_}
 use mathlib.Core.Bool.{cond}
 use mathlib.Core.List.{List, [], _∷_, _++_}
@@ -33,41 +33,22 @@ pub record Ran : Type 0 where
   pub table : List ℕ
   pub line : List ℕ
 
--- `G` split.
-pub ranSplit : List ℕ → List ℕ → Ran
-ranSplit file table =
+-- Commands: `G` split; `I client key` insert, payload zero; `S client key`; `A client lift` scan, with room for all buckets and all records.
+-- A line not so formed prints `?`.
+pub ran : List ℕ → List ℕ → Command → Ran
+ran file table Split =
     let done = split file in
     record { file = done .file; table = table; line = splitLine (done .answer) (done .old) (done .new) }
-
--- `I client key` insert, payload zero.
-pub ranInsert : List ℕ → List ℕ → ℕ → ℕ → Ran
-ranInsert file table client key =
+ran file table (Insert client key) =
     let done = insert file table client key (replicate 14 0) (replicate 24 0) in
     record { file = done .file; table = done .table; line = rideLine letterI (done .block) }
-
--- `S client key`.
-pub ranSearch : List ℕ → List ℕ → ℕ → ℕ → Ran
-ranSearch file table client key =
+ran file table (Search client key) =
     let done = search file table client key (replicate 24 0) in
     record { file = done .file; table = done .table; line = rideLine letterS (done .block) }
-
--- `A client lift` scan, with room for every bucket and for every record.
-pub ranScan : List ℕ → List ℕ → ℕ → ℕ → Ran
-ranScan file table client lift =
+ran file table (Scan client lift) =
     let done = scan file table client lift (replicate 16 0) (replicate 64 0) in
     record { file = file; table = table; line = scanLine (done .answer) (take (done .visits) (done .visitList)) (done .matches) }
-
--- A line not so formed prints `?`.
-pub ranUnknown : List ℕ → List ℕ → Ran
-ranUnknown file table = record { file = file; table = table; line = unknownLine }
-
--- What each command comes to.
-pub ran : List ℕ → List ℕ → Command → Ran
-ran file table Split = ranSplit file table
-ran file table (Insert client key) = ranInsert file table client key
-ran file table (Search client key) = ranSearch file table client key
-ran file table (Scan client lift) = ranScan file table client lift
-ran file table Unknown = ranUnknown file table
+ran file table Unknown = record { file = file; table = table; line = unknownLine }
 
 -- It prints one line a command line; a last one of at least one byte without its line feed prints `?`.
 pub printedFrom : List ℕ → List ℕ → List (List ℕ) → List ℕ
@@ -81,8 +62,12 @@ printedFrom file table (line ∷ next ∷ more) =
 pub printed : List ℕ → List ℕ
 printed input = printedFrom madeFile joinedTable (pieces lineFeed input)
 
--- What a function that runs a command owes: file and table are what the command leaves, and its line is written.
-pub record Done (ran : Ran) (file table : List ℕ) (at : ℕ) (entry exit : List ℕ) (next : ℕ) : Type 0 where
+-- Room for what is printed of so many bytes of input: a longer line needs more only if its command has two numbers.
+abbrev pub roomFor : ℕ → ℕ
+roomFor bytes = 32 * bytes
+
+-- What a function that runs a command owes: file and table are what the command leaves, and its line is written, within its room.
+pub record Done (room : ℕ) (ran : Ran) (file table : List ℕ) (at : ℕ) (entry exit : List ℕ) (next : ℕ) : Type 0 where
   pub holds : file ≡ ran .file
   pub knows : table ≡ ran .table
-  pub prints : WroteLine 16 at (ran .line) entry exit next
+  pub prints : WroteLine room at (ran .line) entry exit next

@@ -4,11 +4,11 @@ mod session;
 ghost use mathlib.Core.Path.{_≡_};
 ghost use lib.ListN.{length};
 
-// Room for all that can be printed of 4,096 bytes: 128 for a line, and a line has at least one byte.
-fn output() -> [u8; 524288]
-    ensures { λ r. ⌜ 524288 ≡ length r ⌝ }
+// Room for all that 4,096 bytes of input can print: 32 bytes for each.
+fn output() -> [u8; 131072]
+    ensures { λ r. ⌜ 131072 ≡ length r ⌝ }
 {
-    [0; 524288]
+    [0; 131072]
 }
 
 fn main() {

@@ -1,16 +1,17 @@
 // A session: a file and four clients, and the commands of an input run on them one after another.
 use commands::Command;
 ghost use mathlib.Core.List.{List};
-ghost use Prim.Native.Nat.{ℕ, _+_, _*_, _≤_};
+ghost use Prim.Native.Nat.{ℕ, _+_, _≤_};
 ghost use lib.ListN.{length};
 ghost use Rattle.commands.specs.Bytes.{lineFeed};
 ghost use Rattle.commands.specs.Text.{Wrote, lineRoom, pieces, commandOf};
-ghost use Rattle.ridefile.specs.Session.{Done, ranSplit, ranInsert, ranSearch, ranScan, ran, printedFrom, printed};
+ghost use Rattle.commands.specs.declared.Command.the-variants.{Split, Insert, Search, Scan};
+ghost use Rattle.ridefile.specs.Session.{Done, ran, printedFrom, printed, roomFor};
 
 // Splits, and writes the line.
 fn run_split(file: &mut [u8], out: &mut [u8], at: usize) -> usize
-    requires { ⌜ at + lineRoom 16 ≤ length (now out) ⌝ }
-    ensures { λ r. ⌜ ((table : List ℕ) → Done (ranSplit (now (file .entry)) table) (now (file .exit)) table at (now (out .entry)) (now (out .exit)) r) ⌝ }
+    requires { ⌜ at + lineRoom 2 ≤ length (now out) ⌝ }
+    ensures { λ r. ⌜ ((table : List ℕ) → Done (lineRoom 2) (ran (now (file .entry)) table Split) (now (file .exit)) table at (now (out .entry)) (now (out .exit)) r) ⌝ }
 {
     let answer = file::split(file);
     commands::put_split(out, at, answer.reply, answer.old_bucket, answer.new_bucket)
@@ -25,8 +26,8 @@ fn run_insert(
     out: &mut [u8],
     at: usize,
 ) -> usize
-    requires { ⌜ at + lineRoom 16 ≤ length (now out) ⌝ }
-    ensures { λ r. ⌜ Done (ranInsert (now (file .entry)) (now (table .entry)) client key) (now (file .exit)) (now (table .exit)) at (now (out .entry)) (now (out .exit)) r ⌝ }
+    requires { ⌜ at + lineRoom 3 ≤ length (now out) ⌝ }
+    ensures { λ r. ⌜ Done (lineRoom 3) (ran (now (file .entry)) (now (table .entry)) (Insert client key)) (now (file .exit)) (now (table .exit)) at (now (out .entry)) (now (out .exit)) r ⌝ }
 {
     let payload = [0u8; 14];
     let mut answer = [0u8; 24];
@@ -43,8 +44,8 @@ fn run_search(
     out: &mut [u8],
     at: usize,
 ) -> usize
-    requires { ⌜ at + lineRoom 16 ≤ length (now out) ⌝ }
-    ensures { λ r. ⌜ Done (ranSearch (now (file .entry)) (now (table .entry)) client key) (now (file .entry)) (now (table .exit)) at (now (out .entry)) (now (out .exit)) r ⌝ }
+    requires { ⌜ at + lineRoom 3 ≤ length (now out) ⌝ }
+    ensures { λ r. ⌜ Done (lineRoom 3) (ran (now (file .entry)) (now (table .entry)) (Search client key)) (now (file .entry)) (now (table .exit)) at (now (out .entry)) (now (out .exit)) r ⌝ }
 {
     let mut answer = [0u8; 24];
     ride::search(file, table, client, key, &mut answer);
@@ -54,7 +55,7 @@ fn run_search(
 // Scans for a lift, and writes the line.
 fn run_scan(file: &[u8], table: &[u8], client: u64, lift: u32, out: &mut [u8], at: usize) -> usize
     requires { ⌜ at + lineRoom 16 ≤ length (now out) ⌝ }
-    ensures { λ r. ⌜ Done (ranScan (now (file .entry)) (now (table .entry)) client lift) (now (file .entry)) (now (table .entry)) at (now (out .entry)) (now (out .exit)) r ⌝ }
+    ensures { λ r. ⌜ Done (lineRoom 16) (ran (now (file .entry)) (now (table .entry)) (Scan client lift)) (now (file .entry)) (now (table .entry)) at (now (out .entry)) (now (out .exit)) r ⌝ }
 {
     let mut visits = [0u16; 16];
     let mut matches = [0u64; 64];
@@ -65,8 +66,8 @@ fn run_scan(file: &[u8], table: &[u8], client: u64, lift: u32, out: &mut [u8], a
 
 // Runs the command that a line is, and writes its line.
 fn run_line(line: &[u8], file: &mut [u8], table: &mut [u8], out: &mut [u8], at: usize) -> usize
-    requires { ⌜ at + lineRoom 16 ≤ length (now out) ⌝ }
-    ensures { λ r. ⌜ Done (ran (now (file .entry)) (now (table .entry)) (commandOf (now (line .entry)))) (now (file .exit)) (now (table .exit)) at (now (out .entry)) (now (out .exit)) r ⌝ }
+    requires { ⌜ at + roomFor (length (now line) + 1) ≤ length (now out) ⌝ }
+    ensures { λ r. ⌜ Done (roomFor (length (now (line .entry)) + 1)) (ran (now (file .entry)) (now (table .entry)) (commandOf (now (line .entry)))) (now (file .exit)) (now (table .exit)) at (now (out .entry)) (now (out .exit)) r ⌝ }
 {
     let command = commands::read_command(line);
     match command {
@@ -80,7 +81,7 @@ fn run_line(line: &[u8], file: &mut [u8], table: &mut [u8], out: &mut [u8], at: 
 
 // Runs the lines of an input one after another; what follows the last line feed is no command.
 fn run_lines(input: &[u8], file: &mut [u8], table: &mut [u8], out: &mut [u8]) -> usize
-    requires { ⌜ lineRoom 16 * length (now input) ≤ length (now out) ⌝ }
+    requires { ⌜ roomFor (length (now input)) ≤ length (now out) ⌝ }
     ensures { λ r. ⌜ Wrote 0 (printedFrom (now (file .entry)) (now (table .entry)) (pieces lineFeed (now (input .entry)))) (now (out .entry)) (now (out .exit)) r ⌝ }
 {
     let mut from = 0;
@@ -98,7 +99,7 @@ fn run_lines(input: &[u8], file: &mut [u8], table: &mut [u8], out: &mut [u8]) ->
 
 // Makes the file and its clients, runs an input on them, and writes what is printed.
 pub fn run(input: &[u8], out: &mut [u8]) -> usize
-    requires { ⌜ lineRoom 16 * length (now input) ≤ length (now out) ⌝ }
+    requires { ⌜ roomFor (length (now input)) ≤ length (now out) ⌝ }
     ensures { λ r. ⌜ Wrote 0 (printed (now (input .entry))) (now (out .entry)) (now (out .exit)) r ⌝ }
 {
     let mut file = [0u8; 1680];

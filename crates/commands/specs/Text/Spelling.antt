@@ -1,6 +1,6 @@
 -- A line that is a command has one spelling: its letter and the decimal digits of its numbers, each after one space. What is so spelled is read
 -- back, and what is read was so spelled.
-use Prim.Native.Nat.{ℕ, _^_, _<_}
+use Prim.Native.Nat.{ℕ, _^_, _≤_, _<_}
 use mathlib.Core.Path.{_≡_, refl, _∙_, sym, ap, ap₂}
 use mathlib.Core.Bool.{Bool, true, false}
 use mathlib.Core.List.{List, [], _∷_, _++_}
@@ -8,9 +8,10 @@ use mathlib.Core.Logic.{by-cases}
 use native.Mathlib.Decide.{ℕ-discrete}
 use native.Mathlib.Omega.{arith}
 use borrow.Author.Tests.{eq-eqb, ne-eqb}
+use lib.ListN.{length, length-append}
 use Rattle.commands.specs.Bytes.{space, letterG}
 use Rattle.commands.specs.Text.{allDigits, value, isNumber, decimal, longer, pieces, named, limitAfter, ofNumbers, ofFields, commandOf}
-use Rattle.commands.specs.Text.Decimal.{decimal-digits, decimal-number, digit-first, number-spelling}
+use Rattle.commands.specs.Text.Decimal.{decimal-some, decimal-digits, decimal-number, digit-first, number-spelling}
 use Rattle.commands.specs.Text.Fields.{numbers-both, three-fields}
 use Rattle.commands.specs.Text.Pieces.{together, together-pieces}
 use Rattle.commands.specs.declared.Command.the-variants.{Split, Unknown}
@@ -18,6 +19,15 @@ use Rattle.commands.specs.declared.Command.the-variants.{Split, Unknown}
 -- A letter and two numbers, each after one space.
 pub spelling : ℕ → ℕ → ℕ → List ℕ
 spelling letter client number = letter ∷ space ∷ decimal client ++ space ∷ decimal number
+
+pub spelling-long : (letter client number : ℕ) → 5 ≤ length (spelling letter client number)
+unfolding spelling
+spelling-long letter client number = omega (
+  arith,
+  length-append (letter ∷ space ∷ decimal client) (space ∷ decimal number),
+  decimal-some client,
+  decimal-some number,
+)
 
 -- digits before a space are a field
 digits-field : (ds rest : List ℕ) → allDigits ds ≡ true → pieces space (ds ++ space ∷ rest) ≡ ds ∷ pieces space rest

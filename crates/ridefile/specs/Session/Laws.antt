@@ -1,5 +1,5 @@
 -- Each command by what its call told, and the lines of an input one after another: what is printed so far, and what the rest prints, is the whole.
-use Prim.Native.Nat.{ℕ, _+_, _-_, _*_, _≤_, _<_}
+use Prim.Native.Nat.{ℕ, _+_, _-_, _≤_, _<_}
 use mathlib.Core.Path.{_≡_, refl, _∙_, sym, ap, ap₂, subst}
 use mathlib.Core.List.{List, [], _∷_, _++_, append-assoc, append-nil}
 use mathlib.Core.Logic.{by-cases}
@@ -8,6 +8,7 @@ use native.Mathlib.Numerals.{add-one}
 use native.Mathlib.Omega.{arith}
 use borrow.Author.Tests.{lt-ltb}
 use lib.ListN.{length, take, drop, replicate, length-drop, drop-of-length-le}
+use lib.Seq.{length-take-le}
 use Rattle.address.specs.Limits.{noBucket}
 use Rattle.layout.specs.Replies.{reply}
 use Rattle.client.specs.Table.{Joined, join}
@@ -20,52 +21,50 @@ use Rattle.commands.specs.Bytes.{lineFeed, letterI, letterS}
 use Rattle.commands.specs.Text.{pieces, lineEnd, commandOf, unknownLine, rideLine, splitLine, scanLine, Wrote, WroteLine, lineRoom}
 use Rattle.commands.specs.Text.Edit.{wrote-none, wrote-both}
 use Rattle.commands.specs.Text.Pieces.{pieces-none, some-piece, place-after, pieces-more, pieces-last}
+use Rattle.commands.specs.Text.Spelling.{Spelling, unknown, splits, numbers, one-spelling, spelling-long}
 use Rattle.commands.specs.declared.Command.{Command}
 use Rattle.commands.specs.declared.Command.the-variants.{Split, Insert, Search, Scan, Unknown}
-use Rattle.ridefile.specs.Session.{Done, madeFile, joinedTable, ranSplit, ranInsert, ranSearch, ranScan, ranUnknown, ran, printedFrom, printed}
-
--- a line that fits a smaller room fits a larger one
-wider : {count at next : ℕ} {line entry exit : List ℕ} → count ≤ 16 → WroteLine count at line entry exit next → WroteLine 16 at line entry exit next
-wider few w = record { wrote = w .wrote; short = omega (arith, w .short) }
+use Rattle.ridefile.specs.Session.{Done, madeFile, joinedTable, ran, printedFrom, printed, roomFor}
 
 -- each command, by what its call told and what was written of it
 module _ {at next : ℕ} {entry exit : List ℕ} (file table : List ℕ) where
-  pub split-done : (o : Splitted) → o ≡ split file → WroteLine 2 at (splitLine (o .answer) (o .old) (o .new)) entry exit next
-      → Done (ranSplit file table) (o .file) table at entry exit next
-  unfolding ranSplit
+  pub split-done : (o : Splitted) → o ≡ split file → WroteLine (lineRoom 2) at (splitLine (o .answer) (o .old) (o .new)) entry exit next
+      → Done (lineRoom 2) (ran file table Split) (o .file) table at entry exit next
+  unfolding ran
   split-done o e w = subst
-      (λ (p : Splitted). Done (record { file = p .file; table = table; line = splitLine (p .answer) (p .old) (p .new) }) (o .file) table at entry exit next)
+      (λ (p : Splitted). Done (lineRoom 2) (record { file = p .file; table = table; line = splitLine (p .answer) (p .old) (p .new) }) (o .file) table at entry exit next)
       e
-      (record { holds = refl; knows = refl; prints = wider (omega arith) w })
+      (record { holds = refl; knows = refl; prints = w })
 
-  ride-done : (letter : ℕ) (o p : Outcome) → o ≡ p → WroteLine 3 at (rideLine letter (o .block)) entry exit next
-      → Done (record { file = p .file; table = p .table; line = rideLine letter (p .block) }) (o .file) (o .table) at entry exit next
+  ride-done : (letter : ℕ) (o p : Outcome) → o ≡ p → WroteLine (lineRoom 3) at (rideLine letter (o .block)) entry exit next
+      → Done (lineRoom 3) (record { file = p .file; table = p .table; line = rideLine letter (p .block) }) (o .file) (o .table) at entry exit next
   ride-done letter o p e w = subst
-      (λ (q : Outcome). Done (record { file = q .file; table = q .table; line = rideLine letter (q .block) }) (o .file) (o .table) at entry exit next)
+      (λ (q : Outcome). Done (lineRoom 3) (record { file = q .file; table = q .table; line = rideLine letter (q .block) }) (o .file) (o .table) at entry exit next)
       e
-      (record { holds = refl; knows = refl; prints = wider (omega arith) w })
+      (record { holds = refl; knows = refl; prints = w })
 
   pub insert-done : (client key : ℕ) (o : Outcome) → o ≡ insert file table client key (replicate 14 0) (replicate 24 0)
-      → WroteLine 3 at (rideLine letterI (o .block)) entry exit next → Done (ranInsert file table client key) (o .file) (o .table) at entry exit next
-  unfolding ranInsert
+      → WroteLine (lineRoom 3) at (rideLine letterI (o .block)) entry exit next → Done (lineRoom 3) (ran file table (Insert client key)) (o .file) (o .table) at entry exit next
+  unfolding ran
   insert-done client key o e w = ride-done letterI o (insert file table client key (replicate 14 0) (replicate 24 0)) e w
 
   pub search-done : (client key : ℕ) (o : Outcome) → o ≡ search file table client key (replicate 24 0)
-      → WroteLine 3 at (rideLine letterS (o .block)) entry exit next → Done (ranSearch file table client key) (o .file) (o .table) at entry exit next
-  unfolding ranSearch
+      → WroteLine (lineRoom 3) at (rideLine letterS (o .block)) entry exit next → Done (lineRoom 3) (ran file table (Search client key)) (o .file) (o .table) at entry exit next
+  unfolding ran
   search-done client key o e w = ride-done letterS o (search file table client key (replicate 24 0)) e w
 
   pub scan-done : (client lift count : ℕ) (o : Scanned) → o ≡ scan file table client lift (replicate 16 0) (replicate 64 0) → count ≤ 16
-      → WroteLine count at (scanLine (o .answer) (take (o .visits) (o .visitList)) (o .matches)) entry exit next → Done (ranScan file table client lift) file table at entry exit next
-  unfolding ranScan
+      → WroteLine (lineRoom count) at (scanLine (o .answer) (take (o .visits) (o .visitList)) (o .matches)) entry exit next
+      → Done (lineRoom 16) (ran file table (Scan client lift)) file table at entry exit next
+  unfolding ran
   scan-done client lift count o e few w = subst
-      (λ (p : Scanned). Done (record { file = file; table = table; line = scanLine (p .answer) (take (p .visits) (p .visitList)) (p .matches) }) file table at entry exit next)
+      (λ (p : Scanned). Done (lineRoom 16) (record { file = file; table = table; line = scanLine (p .answer) (take (p .visits) (p .visitList)) (p .matches) }) file table at entry exit next)
       e
-      (record { holds = refl; knows = refl; prints = wider few w })
+      (record { holds = refl; knows = refl; prints = record { wrote = w .wrote; short = omega (arith, w .short) } })
 
-  pub unknown-done : WroteLine 0 at unknownLine entry exit next → Done (ranUnknown file table) file table at entry exit next
-  unfolding ranUnknown
-  unknown-done w = record { holds = refl; knows = refl; prints = wider (omega arith) w }
+  pub unknown-done : WroteLine (lineRoom 0) at unknownLine entry exit next → Done (lineRoom 0) (ran file table Unknown) file table at entry exit next
+  unfolding ran
+  unknown-done w = record { holds = refl; knows = refl; prints = w }
 
 -- a scan answers no more visits than its list has room for
 visits-fit : (file table : List ℕ) (client lift : ℕ) (visits matches : List ℕ) → scan file table client lift visits matches .visits ≤ length visits
@@ -89,27 +88,37 @@ pub visits-few : (file table : List ℕ) (client lift : ℕ) (o : Scanned) → o
 visits-few file table client lift o e =
     omega (arith, ap (λ (s : Scanned). s .visits) e, visits-fit file table client lift (replicate 16 0) (replicate 64 0))
 
--- what a command comes to, by its kind
-module _ (file table : List ℕ) (command : Command) where
-  pub ran-split : command ≡ Split → ran file table command ≡ ranSplit file table
-  unfolding ran
-  ran-split e = rw e
+-- a command's own room is within that of its line, since one with two numbers has at least five bytes
+abbrev pub roomOf : Command → ℕ
+roomOf Split = lineRoom 2
+roomOf (Insert client key) = lineRoom 3
+roomOf (Search client key) = lineRoom 3
+roomOf (Scan client lift) = lineRoom 16
+roomOf Unknown = lineRoom 0
 
-  pub ran-insert : (client key : ℕ) → command ≡ Insert client key → ran file table command ≡ ranInsert file table client key
-  unfolding ran
-  ran-insert client key e = rw e
+most-room : (command : Command) → roomOf command ≤ lineRoom 16
+most-room Split = omega arith
+most-room (Insert client key) = omega arith
+most-room (Search client key) = omega arith
+most-room (Scan client lift) = omega arith
+most-room Unknown = omega arith
 
-  pub ran-search : (client key : ℕ) → command ≡ Search client key → ran file table command ≡ ranSearch file table client key
-  unfolding ran
-  ran-search client key e = rw e
+pub line-room : (line : List ℕ) (command : Command) → commandOf line ≡ command → roomOf command ≤ roomFor (length line + 1)
+line-room line command is = go (one-spelling line)
+  where
+    go : Spelling line → roomOf command ≤ roomFor (length line + 1)
+    go (unknown e) = rw (sym is ∙ e) (omega arith)
+    go (splits e l) = rw (sym is ∙ e) (omega (arith, ap length l))
+    go (numbers letter client number e some more l) = omega (arith, most-room command, ap length l, spelling-long letter client number)
 
-  pub ran-scan : (client lift : ℕ) → command ≡ Scan client lift → ran file table command ≡ ranScan file table client lift
-  unfolding ran
-  ran-scan client lift e = rw e
-
-  pub ran-unknown : command ≡ Unknown → ran file table command ≡ ranUnknown file table
-  unfolding ran
-  ran-unknown e = rw e
+pub line-done : {after images entry exit : List ℕ} {at next : ℕ} (file table line : List ℕ) (command : Command) → commandOf line ≡ command
+    → Done (roomOf command) (ran file table command) after images at entry exit next
+    → Done (roomFor (length line + 1)) (ran file table (commandOf line)) after images at entry exit next
+line-done file table line command is done = rw is (record {
+  holds = done .holds;
+  knows = done .knows;
+  prints = record { wrote = done .prints .wrote; short = omega (arith, done .prints .short, line-room line command is) };
+})
 
 -- what is printed of an input's pieces: nothing, what no line feed ends, or a line and the rest
 module _ (file table : List ℕ) where
@@ -145,40 +154,44 @@ pub record Printing (input file₀ table₀ out₀ : List ℕ) (from : ℕ) (fil
   pub text : List ℕ
   pub wrote : Wrote 0 text out₀ out at
   pub whole : text ++ printedFrom file table (pieces lineFeed (drop from input)) ≡ printedFrom file₀ table₀ (pieces lineFeed input)
-  pub room : at ≤ lineRoom 16 * from
+  pub room : at ≤ roomFor from
   pub within : from ≤ length input
 
 pub printing-none : (input file table out : List ℕ) → Printing input file table out 0 file table out 0
 printing-none input file table out = record { text = []; wrote = wrote-none 0 out (omega arith); whole = refl; room = omega arith; within = omega arith }
 
 module _ {input file₀ table₀ out₀ : List ℕ} {from : ℕ} {file table out : List ℕ} {at : ℕ} (so : Printing input file₀ table₀ out₀ from file table out at) where
-  pub printing-more : (end : ℕ) → end ≡ lineEnd input from → end < length input → {after images exit : List ℕ} {next : ℕ}
-      → Done (ran file table (commandOf (take (end - from) (drop from input)))) after images at out exit next
-      → Printing input file₀ table₀ out₀ (end + 1) after images exit next
-  printing-more end is h {after} {images} done = record {
-    text = so .text ++ line;
-    wrote = wrote-both (so .wrote) (done .prints .wrote);
-    whole = append-assoc (so .text) line rest ∙ ap (λ (l : List ℕ). so .text ++ l) (sym step) ∙ so .whole;
-    room = omega (arith, done .prints .short, done .prints .wrote .place, later);
-    within = omega arith;
-  }
-    where
-      line : List ℕ
-      line = ran file table (commandOf (take (end - from) (drop from input))) .line
+  module _ (end : ℕ) (is : end ≡ lineEnd input from) (inside : end < length input) where
+    later : from ≤ end
+    later = omega (arith, place-after lineFeed input from)
 
-      rest : List ℕ
-      rest = printedFrom after images (pieces lineFeed (drop (end + 1) input))
+    line-length : length (take (end - from) (drop from input)) ≡ end - from
+    line-length = length-take-le (end - from) (drop from input) (omega (arith, later, length-drop from input))
 
-      later : from ≤ end
-      later = omega (arith, place-after lineFeed input from)
+    pub printing-more : {after images exit : List ℕ} {next : ℕ}
+        → Done (roomFor (length (take (end - from) (drop from input)) + 1)) (ran file table (commandOf (take (end - from) (drop from input)))) after images at out exit next
+        → Printing input file₀ table₀ out₀ (end + 1) after images exit next
+    printing-more {after} {images} done = record {
+      text = so .text ++ line;
+      wrote = wrote-both (so .wrote) (done .prints .wrote);
+      whole = append-assoc (so .text) line rest ∙ ap (λ (l : List ℕ). so .text ++ l) (sym step) ∙ so .whole;
+      room = omega (arith, done .prints .short, done .prints .wrote .place, later, line-length, so .room);
+      within = omega arith;
+    }
+      where
+        line : List ℕ
+        line = ran file table (commandOf (take (end - from) (drop from input))) .line
 
-      parts : pieces lineFeed (drop from input) ≡ take (end - from) (drop from input) ∷ pieces lineFeed (drop (end + 1) input)
-      parts = rw (add-one, is) (pieces-more lineFeed input from (so .within) (omega arith))
+        rest : List ℕ
+        rest = printedFrom after images (pieces lineFeed (drop (end + 1) input))
 
-      step : printedFrom file table (pieces lineFeed (drop from input)) ≡ line ++ rest
-      step = rw parts (printed-line file table (take (end - from) (drop from input)) (drop (end + 1) input) after images (done .holds) (done .knows))
+        parts : pieces lineFeed (drop from input) ≡ take (end - from) (drop from input) ∷ pieces lineFeed (drop (end + 1) input)
+        parts = rw (add-one, is) (pieces-more lineFeed input from (so .within) (omega arith))
 
-  pub printing-cut : from < length input → lineEnd input from ≡ length input → {exit : List ℕ} {next : ℕ} → WroteLine 0 at unknownLine out exit next
+        step : printedFrom file table (pieces lineFeed (drop from input)) ≡ line ++ rest
+        step = rw parts (printed-line file table (take (end - from) (drop from input)) (drop (end + 1) input) after images (done .holds) (done .knows))
+
+  pub printing-cut : from < length input → lineEnd input from ≡ length input → {exit : List ℕ} {next : ℕ} → WroteLine (lineRoom 0) at unknownLine out exit next
       → Wrote 0 (printedFrom file₀ table₀ (pieces lineFeed input)) out₀ exit next
   printing-cut some h w = rw (← (so .whole), last) (wrote-both (so .wrote) (w .wrote))
     where

@@ -1,7 +1,7 @@
 -- `ridefile::session::run_line` goes by the command that the line is.
 use mathlib.Core.Path.{_∙_, sym}
-use Rattle.commands.specs.Text.{commandOf}
-use Rattle.ridefile.specs.Session.Laws.{unknown-done, ran-split, ran-insert, ran-search, ran-scan, ran-unknown}
+use native.Mathlib.Omega.{arith}
+use Rattle.ridefile.specs.Session.Laws.{unknown-done, line-room, line-done}
 use borrow.Author.Needs.{needs}
 use Rattle.ridefile.proofs.session.run_line.Statement.{statement}
 use Rattle.ridefile.proofs.session.run_line.Tie as tie
@@ -13,25 +13,37 @@ enum-told : tie.Need-enum-told
 enum-told c = search needs
 
 run-split-requires : tie.Need-run-split-requires
-run-split-requires c κs = search needs
+run-split-requires c κs =
+    let r = c .before .before .before .before in
+    let a = r .before .before .before .before .before .args in
+    omega (arith, line-room (a .line .now) _ (sym (r .read-command .ensures) ∙ c .before .before .enum-told .given .1))
 
 enum-known-command : tie.Need-enum-known-command
 enum-known-command c = search needs
 
 run-insert-requires : tie.Need-run-insert-requires
-run-insert-requires c κs = search needs
+run-insert-requires c κs =
+    let r = c .before .before .before .before .before .before in
+    let a = r .before .before .before .before .before .args in
+    omega (arith, line-room (a .line .now) _ (sym (r .read-command .ensures) ∙ c .before .before .before .before .command .given .1))
 
 enum-known-command-2 : tie.Need-enum-known-command-2
 enum-known-command-2 c = search needs
 
 run-search-requires : tie.Need-run-search-requires
-run-search-requires c κs = search needs
+run-search-requires c κs =
+    let r = c .before .before .before .before .before .before in
+    let a = r .before .before .before .before .before .args in
+    omega (arith, line-room (a .line .now) _ (sym (r .read-command .ensures) ∙ c .before .before .before .before .command2 .given .1))
 
 enum-known-command-3 : tie.Need-enum-known-command-3
 enum-known-command-3 c = search needs
 
 run-scan-requires : tie.Need-run-scan-requires
-run-scan-requires c κs = search needs
+run-scan-requires c κs =
+    let r = c .before .before .before .before .before .before in
+    let a = r .before .before .before .before .before .args in
+    omega (arith, line-room (a .line .now) _ (sym (r .read-command .ensures) ∙ c .before .before .before .before .command3 .given .1))
 
 enum-told-2 : tie.Need-enum-told-2
 enum-told-2 c = search needs
@@ -49,7 +61,7 @@ returns : tie.Need-returns
 returns c =
     let r = c .before .before .before .before .before .before .before .before .before in
     let a = r .before .before .before .before .before .args in
-    rw (ran-split (a .file .now) (a .table .now) (commandOf (a .line .now)) (sym (r .read-command .ensures) ∙ c .before .before .before .before .before .before .before .enum-told .given .1)) (c .before .before .before .before .run-split .ensures (a .table .now))
+    line-done (a .file .now) (a .table .now) (a .line .now) _ (sym (r .read-command .ensures) ∙ c .before .before .before .before .before .before .before .enum-told .given .1) (c .before .before .before .before .run-split .ensures (a .table .now))
 
 same-length-3 : tie.Need-same-length-3
 same-length-3 c = search needs
@@ -64,7 +76,7 @@ returns-2 : tie.Need-returns-2
 returns-2 c =
     let r = c .before .before .before .before .before .before .before .before .before .before .before .before .before in
     let a = r .before .before .before .before .before .args in
-    rw (ran-insert (a .file .now) (a .table .now) (commandOf (a .line .now)) _ _ (sym (r .read-command .ensures) ∙ c .before .before .before .before .before .before .before .before .before .before .before .command .given .1)) (c .before .before .before .before .before .before .run-insert .ensures)
+    line-done (a .file .now) (a .table .now) (a .line .now) _ (sym (r .read-command .ensures) ∙ c .before .before .before .before .before .before .before .before .before .before .before .command .given .1) (c .before .before .before .before .before .before .run-insert .ensures)
 
 same-length-6 : tie.Need-same-length-6
 same-length-6 c = search needs
@@ -79,7 +91,7 @@ returns-3 : tie.Need-returns-3
 returns-3 c =
     let r = c .before .before .before .before .before .before .before .before .before .before .before in
     let a = r .before .before .before .before .before .args in
-    rw (ran-search (a .file .now) (a .table .now) (commandOf (a .line .now)) _ _ (sym (r .read-command .ensures) ∙ c .before .before .before .before .before .before .before .before .before .command2 .given .1)) (c .before .before .before .before .run-search .ensures)
+    line-done (a .file .now) (a .table .now) (a .line .now) _ (sym (r .read-command .ensures) ∙ c .before .before .before .before .before .before .before .before .before .command2 .given .1) (c .before .before .before .before .run-search .ensures)
 
 same-length-9 : tie.Need-same-length-9
 same-length-9 c = search needs
@@ -94,7 +106,7 @@ returns-4 : tie.Need-returns-4
 returns-4 c =
     let r = c .before .before .before .before .before .before .before .before .before in
     let a = r .before .before .before .before .before .args in
-    rw (ran-scan (a .file .now) (a .table .now) (commandOf (a .line .now)) _ _ (sym (r .read-command .ensures) ∙ c .before .before .before .before .before .before .before .command3 .given .1)) (c .before .before .run-scan .ensures)
+    line-done (a .file .now) (a .table .now) (a .line .now) _ (sym (r .read-command .ensures) ∙ c .before .before .before .before .before .before .before .command3 .given .1) (c .before .before .run-scan .ensures)
 
 same-length-12 : tie.Need-same-length-12
 same-length-12 c = search needs
@@ -103,7 +115,7 @@ returns-5 : tie.Need-returns-5
 returns-5 c =
     let r = c .before .before .before .before .before .before in
     let a = r .before .before .before .before .before .args in
-    rw (ran-unknown (a .file .now) (a .table .now) (commandOf (a .line .now)) (sym (r .read-command .ensures) ∙ c .before .before .before .before .enum-told2 .given .1)) (unknown-done (a .file .now) (a .table .now) (c .before .before .put-unknown .ensures))
+    line-done (a .file .now) (a .table .now) (a .line .now) _ (sym (r .read-command .ensures) ∙ c .before .before .before .before .enum-told2 .given .1) (unknown-done (a .file .now) (a .table .now) (c .before .before .put-unknown .ensures))
 
 pub run-line-spec : {M : Type 1} → statement M
 run-line-spec =
