@@ -1,5 +1,6 @@
 -- The program `ridefile` as document 01 has it: the file and the clients that it makes, what each command comes to, and what is printed.
 pub mod Laws
+pub mod Route
 use Prim.Native.Nat.{ℕ, _*_}
 use mathlib.Core.Path.{_≡_}
 use mathlib.Core.Bool.{cond}

@@ -107,7 +107,14 @@ module _ (letter reply : ℕ) where
     pub answer-short : reply < 2 ^ 32 → ((i : ℕ) → getD route i 0 < 65536) → length (answerLine letter reply route) ≤ lineRoom (length route)
     answer-short h k = omega (arith, answer-length, heading-short h, joined-short greater route k)
 
--- an insert's or a search's line, by what the code reads from the block
+-- an insert's or a search's line, by a route that the block gives
+pub ride-route : (letter : ℕ) (block : List ℕ) (reply count one two three : ℕ) (route : List ℕ)
+    → byteAt block 0 ≡ reply → byteAt block 1 ≡ count → leAt 2 block 2 ≡ one → leAt 2 block 4 ≡ two → leAt 2 block 6 ≡ three
+    → take count (one ∷ two ∷ three ∷ []) ≡ route → rideLine letter block ≡ answerLine letter reply route
+unfolding rideLine routeIn
+ride-route letter block reply count one two three route r n x y z e = rw (r, n, x, y, z, e)
+
+-- and by what the code reads from the block
 pub ride-is : (letter reply one two three : ℕ) (block : List ℕ)
     → reply ≡ byteAt block 0 → one ≡ leAt 2 block 2 → two ≡ leAt 2 block 4 → three ≡ leAt 2 block 6
     → rideLine letter block ≡ answerLine letter reply (take (min (byteAt block 1) 3) (one ∷ two ∷ three ∷ []))
