@@ -1,5 +1,5 @@
 // The text of the program: a line read as a command, and answers written as lines. Bytes and numbers
-// only; `specs/Line.antt` has the grammar, `specs/Print.antt` the lines.
+// only; `specs/Text.antt` has the grammar and the lines.
 ghost use mathlib.Core.Path.{_≡_};
 ghost use mathlib.Core.List.{[], _∷_};
 ghost use Prim.Native.Nat.{_+_, _≤_, _<_, min};
