@@ -1,6 +1,6 @@
 // One bucket's region: judged, searched, a ride placed in it, and its rides divided.
 ghost use mathlib.Core.Path.{_≡_};
-ghost use mathlib.Core.Bool.{_&&_, not, cond};
+ghost use mathlib.Core.Bool.{_&&_, not, cond, true, false};
 ghost use Prim.Native.Nat.{ℕ, _+_, _*_, _-_, _≤_, _<_};
 ghost use lib.Dec.{eqb};
 ghost use lib.ListN.{length, replicate};
@@ -8,7 +8,7 @@ ghost use Rattle.address.specs.Room.{Room};
 ghost use Rattle.address.specs.Rules.{keeps};
 ghost use Rattle.layout.specs.Bytes.{leBytes, allBelow, firstFrom, edit, part};
 ghost use mathlib.Core.List.{[]};
-ghost use Rattle.bucket.specs.Region.{slotAt, countOf, slotUsed, keyAt, ridesFrom, ridesOf, keysOf, every, distinct, headSound, soundWith, headBytes, slotBytes, encode, kept};
+ghost use Rattle.bucket.specs.Region.{slotAt, countOf, slotUsed, keyAt, ridesFrom, ridesOf, keysOf, every, distinct, headSound, soundWith, slotOf, headBytes, slotBytes, encode, kept};
 ghost use Rattle.bucket.specs.Region.Divide.{Halves, Parted};
 ghost use Rattle.bucket.specs.Region.Single.{Chained, fingerprint, latestOf};
 
@@ -34,7 +34,7 @@ pub fn key_at(region: &[u8], slot: usize) -> u64
 }
 
 // The slot of the first ones that holds a key, and their count if none does.
-pub fn find(region: &[u8], count: usize, key: u64) -> usize
+fn find(region: &[u8], count: usize, key: u64) -> usize
     requires { ⌜ (slotAt count ≤ length (now region)) × (count ≤ 64) ⌝ }
     ensures { λ r. ⌜ r ≡ firstFrom (λ (k : ℕ). eqb (keyAt (now (region .entry)) k) key) count 0 ⌝ }
 {
@@ -48,24 +48,62 @@ pub fn find(region: &[u8], count: usize, key: u64) -> usize
     k
 }
 
+// Whether a region is sound, and then the slot that holds a key, or the count if none does.
+pub struct Judged {
+    pub sound: bool,
+    pub place: usize,
+}
+
+// The judgment of an unsound region.
+fn unsound() -> Judged
+    ensures { λ r. ⌜ r .sound ≡ false ⌝ }
+{
+    Judged {
+        sound: false,
+        place: 0,
+    }
+}
+
+// A slot that is found takes the place of another.
+fn found_at(found: bool, slot: usize, place: usize) -> usize
+    ensures { λ r. ⌜ r ≡ cond found slot place ⌝ }
+{
+    if found {
+        return slot;
+    }
+    place
+}
+
 // The same as `slots_sound`, each key compared with all before it.
-fn slots_paired(region: &[u8], count: usize, first: u32, bucket: u32, level: u32) -> bool
+fn slots_paired(
+    region: &[u8],
+    count: usize,
+    first: u32,
+    bucket: u32,
+    level: u32,
+    key: u64,
+) -> Judged
     requires { ⌜ Room first level × (slotAt count ≤ length (now region)) × (count ≤ 64) ⌝ }
-    ensures { λ r. ⌜ r ≡ (allBelow (slotUsed (now (region .entry))) count && every (keeps first bucket level) (keysOf (ridesFrom (now (region .entry)) 0 count)) && distinct (keysOf (ridesFrom (now (region .entry)) 0 count))) ⌝ }
+    ensures { λ r. ⌜ (r .sound ≡ (allBelow (slotUsed (now (region .entry))) count && every (keeps first bucket level) (keysOf (ridesFrom (now (region .entry)) 0 count)) && distinct (keysOf (ridesFrom (now (region .entry)) 0 count)))) × (r .sound ≡ true → r .place ≡ firstFrom (λ (k : ℕ). eqb (keyAt (now (region .entry)) k) key) count 0) ⌝ }
 {
     let mut used = true;
     let mut belong = true;
+    let mut place = count;
     let mut k = 0;
     while k < count {
-        let key = key_at(region, k);
+        let held = key_at(region, k);
         used = used & layout::has_mark(region, 8 + 24 * k, b"LR");
-        belong = belong & (address::hash(first, level, key) == bucket);
-        if find(region, k, key) < k {
-            return false;
+        belong = belong & (address::hash(first, level, held) == bucket);
+        place = found_at(held == key, k, place);
+        if find(region, k, held) < k {
+            return unsound();
         }
         k = k + 1;
     }
-    used & belong
+    Judged {
+        sound: used & belong,
+        place,
+    }
 }
 
 // A number below 512 that keys of different rides and lifts seldom share.
@@ -102,39 +140,45 @@ fn slots_chained(
     first: u32,
     bucket: u32,
     level: u32,
+    key: u64,
     latest: &mut [u8],
     before: &mut [u8],
-) -> bool
+) -> Judged
     requires { ⌜ Room first level × (slotAt count ≤ length (now region)) × (count ≤ 64) × (now latest ≡ replicate 512 0) × (length (now before) ≡ 64) ⌝ }
-    ensures { λ r. ⌜ r ≡ (allBelow (slotUsed (now (region .entry))) count && every (keeps first bucket level) (keysOf (ridesFrom (now (region .entry)) 0 count)) && distinct (keysOf (ridesFrom (now (region .entry)) 0 count))) ⌝ }
+    ensures { λ r. ⌜ (r .sound ≡ (allBelow (slotUsed (now (region .entry))) count && every (keeps first bucket level) (keysOf (ridesFrom (now (region .entry)) 0 count)) && distinct (keysOf (ridesFrom (now (region .entry)) 0 count)))) × (r .sound ≡ true → r .place ≡ firstFrom (λ (k : ℕ). eqb (keyAt (now (region .entry)) k) key) count 0) ⌝ }
 {
     let mut used = true;
     let mut belong = true;
+    let mut place = count;
     let mut k = 0;
     while k < count {
-        let key = key_at(region, k);
+        let held = key_at(region, k);
         used = used & layout::has_mark(region, 8 + 24 * k, b"LR");
-        belong = belong & (address::hash(first, level, key) == bucket);
-        let mark = fingerprint(key);
+        belong = belong & (address::hash(first, level, held) == bucket);
+        place = found_at(held == key, k, place);
+        let mark = fingerprint(held);
         let next = latest[mark];
-        if !differs(region, before, k, next as usize, key) {
-            return false;
+        if !differs(region, before, k, next as usize, held) {
+            return unsound();
         }
         before[k] = next;
         latest[mark] = (k + 1) as u8;
         k = k + 1;
     }
-    used & belong
+    Judged {
+        sound: used & belong,
+        place,
+    }
 }
 
 // Whether each slot in use is marked, each key belongs and none stands twice: few keys are compared with one another, many are
 // chained.
-fn slots_sound(region: &[u8], count: usize, first: u32, bucket: u32, level: u32) -> bool
+fn slots_sound(region: &[u8], count: usize, first: u32, bucket: u32, level: u32, key: u64) -> Judged
     requires { ⌜ Room first level × (slotAt count ≤ length (now region)) × (count ≤ 64) ⌝ }
-    ensures { λ r. ⌜ r ≡ (allBelow (slotUsed (now (region .entry))) count && every (keeps first bucket level) (keysOf (ridesFrom (now (region .entry)) 0 count)) && distinct (keysOf (ridesFrom (now (region .entry)) 0 count))) ⌝ }
+    ensures { λ r. ⌜ (r .sound ≡ (allBelow (slotUsed (now (region .entry))) count && every (keeps first bucket level) (keysOf (ridesFrom (now (region .entry)) 0 count)) && distinct (keysOf (ridesFrom (now (region .entry)) 0 count)))) × (r .sound ≡ true → r .place ≡ firstFrom (λ (k : ℕ). eqb (keyAt (now (region .entry)) k) key) count 0) ⌝ }
 {
     if count <= 8 {
-        return slots_paired(region, count, first, bucket, level);
+        return slots_paired(region, count, first, bucket, level, key);
     }
     let mut latest = [0u8; 512];
     let mut before = [0u8; 64];
@@ -144,25 +188,30 @@ fn slots_sound(region: &[u8], count: usize, first: u32, bucket: u32, level: u32)
         first,
         bucket,
         level,
+        key,
         &mut latest,
         &mut before,
     )
 }
 
-// Whether a region is sound as that of a bucket of a level.
-pub fn judge(region: &[u8], slots: u32, first: u32, bucket: u32, level: u32) -> bool
+// Judges a region as that of a bucket of a level, and finds a key in it.
+pub fn judge(region: &[u8], slots: u32, first: u32, bucket: u32, level: u32, key: u64) -> Judged
     requires { ⌜ Room first level × (length (now region) ≡ slotAt slots) × (slots ≤ 64) ⌝ }
-    ensures { λ r. ⌜ r ≡ soundWith slots level (keeps first bucket level) (now (region .entry)) ⌝ }
+    ensures { λ r. ⌜ (r .sound ≡ soundWith slots level (keeps first bucket level) (now (region .entry))) × (r .sound ≡ true → r .place ≡ slotOf (now (region .entry)) key) ⌝ }
 {
     if !head_sound(region, slots, level) {
-        return false;
+        return unsound();
     }
     let count = layout::read2(region, 4) as usize;
-    if !slots_sound(region, count, first, bucket, level) {
-        return false;
+    let judged = slots_sound(region, count, first, bucket, level, key);
+    if !judged.sound {
+        return unsound();
     }
     let rest = 8 + 24 * count;
-    layout::is_zero(&region[rest..])
+    Judged {
+        sound: layout::is_zero(&region[rest..]),
+        place: judged.place,
+    }
 }
 
 // Places a ride in the first free slot, and answers the count then held.

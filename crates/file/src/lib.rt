@@ -1,11 +1,12 @@
 // The file's header and its regions: judged, created, checked and viewed.
 use address::Image;
+use bucket::Judged;
 ghost use mathlib.Core.Path.{_≡_};
 ghost use mathlib.Core.Bool.{true, false};
 ghost use Prim.Native.Nat.{_+_, _*_, _≤_, _<_};
 ghost use lib.ListN.{length, set};
 ghost use Rattle.layout.specs.Bytes.{edit, leBytes};
-ghost use Rattle.bucket.specs.Region.{Ride, countOf};
+ghost use Rattle.bucket.specs.Region.{Ride, countOf, slotOf};
 ghost use Rattle.address.specs.Rules.{newborn};
 ghost use Rattle.file.specs.File.Judge.{Known};
 ghost use Rattle.file.specs.File.{Checked, Created, Splitted, withRide, divided, split, fileMark, figuresFit, stateFits, headerOf, bucketsOf, mostOf, startOf, withState, regionOf, bucketSoundIn, regionSound, lowestUnsound, check, view, create};
@@ -114,16 +115,40 @@ pub fn start(slots: u32, bucket: u32) -> usize
     16 + bucket as usize * (8 + 24 * slots as usize)
 }
 
-// Whether a bucket of a file is sound.
-pub fn bucket_sound(file: &[u8], header: Header, bucket: u32) -> bool
+// Judges a bucket of a file, and finds a key in it.
+pub fn judge_bucket(file: &[u8], header: Header, bucket: u32, key: u64) -> Judged
     requires { ⌜ Known (now file) header × (bucket < bucketsOf (now file)) ⌝ }
-    ensures { λ r. ⌜ r ≡ bucketSoundIn (now (file .entry)) bucket ⌝ }
+    ensures { λ r. ⌜ (r .sound ≡ bucketSoundIn (now (file .entry)) bucket) × (r .sound ≡ true → r .place ≡ slotOf (regionOf (now (file .entry)) bucket) key) ⌝ }
 {
     let slots = header.slots;
     let at = start(slots, bucket);
     let end = at + (8 + 24 * slots as usize);
     let level = address::level_of(address::FIRST_BUCKETS, header.state, bucket);
-    bucket::judge(&file[at..end], slots, address::FIRST_BUCKETS, bucket, level)
+    bucket::judge(
+        &file[at..end],
+        slots,
+        address::FIRST_BUCKETS,
+        bucket,
+        level,
+        key,
+    )
+}
+
+// Whether a bucket of a file is sound.
+pub fn bucket_sound(file: &[u8], header: Header, bucket: u32) -> bool
+    requires { ⌜ Known (now file) header × (bucket < bucketsOf (now file)) ⌝ }
+    ensures { λ r. ⌜ r ≡ bucketSoundIn (now (file .entry)) bucket ⌝ }
+{
+    judge_bucket(file, header, bucket, 0).sound
+}
+
+// How many rides a sound bucket holds.
+pub fn held_in(file: &[u8], header: Header, bucket: u32) -> usize
+    requires { ⌜ Known (now file) header × (bucket < bucketsOf (now file)) × (bucketSoundIn (now file) bucket ≡ true) ⌝ }
+    ensures { λ r. ⌜ (r ≡ countOf (regionOf (now (file .entry)) bucket)) × (r ≤ 64) ⌝ }
+{
+    let at = start(header.slots, bucket);
+    layout::read2(file, at + 4) as usize
 }
 
 // Whether a region of a file is sound, a bucket's or one past the last bucket.

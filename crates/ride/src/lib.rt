@@ -29,10 +29,11 @@ pub struct Walk {
     pub third: u32,
 }
 
-// Where a walk ended, and whether all its buckets were sound.
+// Where a walk ended, whether all its buckets were sound, and then the slot that holds the key there, or the count.
 pub struct End {
     pub sound: bool,
     pub bucket: u32,
+    pub place: usize,
     pub walk: Walk,
 }
 
@@ -81,7 +82,7 @@ fn no_walk() -> Walk
 // Walks a key's route from a client's image until a bucket keeps it or is unsound.
 pub fn walk_route(file: &[u8], header: Header, image: Image, key: u64) -> End
     requires { ⌜ Known (now file) header × (image .level ≤ 12) × Formed 1 image × NotAhead 1 (stateOf (now file)) image ⌝ }
-    ensures { λ r. ⌜ Walked (now (file .entry)) key (wayOf (now (file .entry)) image key) (r .walk) (r .bucket) (r .sound) ⌝ }
+    ensures { λ r. ⌜ Walked (now (file .entry)) key (wayOf (now (file .entry)) image key) (r .walk) (r .bucket) (r .sound) × (r .sound ≡ true → r .place ≡ slotOf (regionOf (now (file .entry)) (r .bucket)) key) ⌝ }
 {
     let state = header.state;
     let mut bucket = address::address(address::FIRST_BUCKETS, image, key);
@@ -93,14 +94,15 @@ pub fn walk_route(file: &[u8], header: Header, image: Image, key: u64) -> End
     };
     loop {
         walk = note(walk, bucket);
-        let sound = file::bucket_sound(file, header, bucket);
+        let judged = file::judge_bucket(file, header, bucket, key);
         let level = address::level_of(address::FIRST_BUCKETS, state, bucket);
-        let fate = address::fate_at(address::FIRST_BUCKETS, sound, bucket, level, key);
+        let fate = address::fate_at(address::FIRST_BUCKETS, judged.sound, bucket, level, key);
         match fate {
             Fate::Keep => {
                 return End {
                     sound: true,
                     bucket,
+                    place: judged.place,
                     walk,
                 };
             }
@@ -111,6 +113,7 @@ pub fn walk_route(file: &[u8], header: Header, image: Image, key: u64) -> End
                 return End {
                     sound: false,
                     bucket,
+                    place: 0,
                     walk,
                 };
             }
@@ -230,29 +233,6 @@ fn adjust(table: &mut [u8], client: u64, header: Header, image: Image, walk: Wal
     client::put_image(table, client, next);
 }
 
-// A bucket's place in the file, its count, and the slot that holds a key there, or the count.
-struct Slot {
-    at: usize,
-    count: usize,
-    place: usize,
-}
-
-// Looks a key up in a sound bucket.
-fn look_up(file: &[u8], header: Header, bucket: u32, key: u64) -> Slot
-    requires { ⌜ Known (now file) header × (bucket < bucketsOf (now file)) × (bucketSoundIn (now file) bucket ≡ true) ⌝ }
-    ensures { λ r. ⌜ (r .at ≡ startOf (header .slots) bucket) × (r .count ≡ countOf (regionOf (now (file .entry)) bucket)) × (r .place ≡ slotOf (regionOf (now (file .entry)) bucket) key) ⌝ }
-{
-    let slots = header.slots;
-    let at = file::start(slots, bucket);
-    let end = at + (8 + 24 * slots as usize);
-    let count = layout::read2(file, at + 4) as usize;
-    Slot {
-        at,
-        count,
-        place: bucket::find(&file[at..end], count, key),
-    }
-}
-
 // A search that reached the key's own bucket: the payload found, or none.
 fn finish_search(
     file: &[u8],
@@ -263,16 +243,17 @@ fn finish_search(
     opened: Opened,
     end: End,
 ) -> u8
-    requires { ⌜ (length (now answer) ≡ 24) × Reached (now file) (now table) client key (opened .header) (opened .image) (end .walk) (end .bucket) ⌝ }
+    requires { ⌜ (length (now answer) ≡ 24) × Reached (now file) (now table) client key (opened .header) (opened .image) (end .walk) (end .bucket) (end .place) ⌝ }
     ensures { λ r. ⌜ record { answer = r; block = now (answer .exit); table = now (table .exit); file = now (file .entry) } ≡ searched (now (file .entry)) (now (table .entry)) client key ⌝ }
 {
     let header = opened.header;
     let walk = end.walk;
-    let slot = look_up(file, header, end.bucket, key);
+    let count = file::held_in(file, header, end.bucket);
     adjust(table, client, header, opened.image, walk);
-    if slot.place < slot.count {
+    if end.place < count {
         put_block(answer, 0, walk, 0);
-        let from = slot.at + (18 + 24 * slot.place);
+        let at = file::start(header.slots, end.bucket);
+        let from = at + (18 + 24 * end.place);
         let to = from + 14;
         layout::put(answer, 10, &file[from..to]);
         return 0;
@@ -323,14 +304,14 @@ fn finish_insert(
     opened: Opened,
     end: End,
 ) -> u8
-    requires { ⌜ (length (now answer) ≡ 24) × Reached (now file) (now table) client key (opened .header) (opened .image) (end .walk) (end .bucket) × (length (now payload) ≡ 14) ⌝ }
+    requires { ⌜ (length (now answer) ≡ 24) × Reached (now file) (now table) client key (opened .header) (opened .image) (end .walk) (end .bucket) (end .place) × (length (now payload) ≡ 14) ⌝ }
     ensures { λ r. ⌜ record { answer = r; block = now (answer .exit); table = now (table .exit); file = now (file .exit) } ≡ placed (now (file .entry)) (now (table .entry)) client key (now (payload .entry)) ⌝ }
 {
     let header = opened.header;
     let walk = end.walk;
-    let slot = look_up(file, header, end.bucket, key);
-    let held = slot.place < slot.count;
-    let full = header.slots as usize <= slot.count;
+    let count = file::held_in(file, header, end.bucket);
+    let held = end.place < count;
+    let full = header.slots as usize <= count;
     adjust(table, client, header, opened.image, walk);
     if held {
         put_block(answer, 8, walk, 0);
@@ -340,8 +321,8 @@ fn finish_insert(
         put_block(answer, 9, walk, 0);
         return 9;
     }
-    let count = file::place_ride(file, header, end.bucket, slot.count, key, payload);
-    put_block(answer, 0, walk, over_capacity(header.capacity, count));
+    let after = file::place_ride(file, header, end.bucket, count, key, payload);
+    put_block(answer, 0, walk, over_capacity(header.capacity, after));
     0
 }
 

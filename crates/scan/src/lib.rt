@@ -45,22 +45,13 @@ fn of_lift(key: u64, lift: u32) -> bool
     key / 4294967296 == lift as u64
 }
 
-// How many records a sound bucket holds.
-fn held(file: &[u8], header: Header, bucket: u32) -> usize
-    requires { ⌜ Known (now file) header × (bucket < bucketsOf (now file)) × (bucketSoundIn (now file) bucket ≡ true) ⌝ }
-    ensures { λ r. ⌜ (r ≡ countOf (regionOf (now (file .entry)) bucket)) × (r ≤ 64) ⌝ }
-{
-    let at = file::start(header.slots, bucket);
-    layout::read2(file, at + 4) as usize
-}
-
 // How many keys of a sound bucket are of a lift.
 fn count_matches(file: &[u8], header: Header, bucket: u32, lift: u32) -> u32
     requires { ⌜ Known (now file) header × (bucket < bucketsOf (now file)) × (bucketSoundIn (now file) bucket ≡ true) ⌝ }
     ensures { λ r. ⌜ (r ≡ length (matching lift (keysIn (now (file .entry)) bucket))) × (r ≤ 64) ⌝ }
 {
     let at = file::start(header.slots, bucket);
-    let count = held(file, header, bucket);
+    let count = file::held_in(file, header, bucket);
     let mut found = 0;
     let mut k = 0;
     while k < count {
@@ -123,7 +114,7 @@ fn put_bucket(
     ensures { λ r. ⌜ (r ≡ from + length (matching lift (keysIn (now (file .entry)) bucket))) × (now (matches .exit) ≡ edit from (matching lift (keysIn (now (file .entry)) bucket)) (now (matches .entry))) ⌝ }
 {
     let at = file::start(header.slots, bucket);
-    let count = held(file, header, bucket);
+    let count = file::held_in(file, header, bucket);
     let mut filled = from;
     let mut k = 0;
     while k < count {

@@ -1,8 +1,8 @@
--- `bucket::slots_paired`: marks so far, what is left to belong, and the keys so far distinct; each turn adds one slot whose key is not found before it.
+-- `bucket::slots_paired`: marks so far, what is left to belong, the keys so far distinct, and the key's slot among them; each turn adds one slot whose key is not found before it.
 use borrow.Author.Needs.{needs}
 use Prim.Native.Nat.{ℕ, _-_}
 use mathlib.Core.Path.{_≡_, refl, sym, ap, _∙_}
-use mathlib.Core.Bool.{true, false, _&&_}
+use mathlib.Core.Bool.{true, false, cond, _&&_, false≢true}
 use mathlib.Core.List.{_∷_, []}
 use lib.Dec.{eqb}
 use Rattle.address.specs.Rules.{keeps}
@@ -10,20 +10,20 @@ use Rattle.layout.specs.Bytes.{allBelow, firstFrom}
 use Rattle.layout.specs.Bytes.Tests.{and-none}
 use Rattle.bucket.specs.Region.{slotUsed, keyAt, ridesFrom, keysOf, every, distinct}
 use Rattle.bucket.specs.Region.Judge.{Slotted, slots-none, slots-more, slots-done}
-use Rattle.bucket.specs.Region.Single.{found-none, found-met, single-none, single-more, single-met, single-done}
+use Rattle.bucket.specs.Region.Single.{found-none, found-met, single-none, single-more, single-met, single-done, Placed, place-none, place-more, place-whole, place-done}
 use Rattle.bucket.proofs.slots_paired.Statement.{statement}
 use Rattle.bucket.proofs.slots_paired.Tie as tie
 
 abbrev Inv-loop : tie.InvT-loop
-Inv-loop region count first bucket level used₀ belong₀ k₀ t10 used belong k = (t10 ≡ 76 ∷ 82 ∷ []) × Slotted (keeps first bucket level) region count k used belong × (distinct (keysOf (ridesFrom region 0 k)) ≡ true)
+Inv-loop region count first bucket level key used₀ belong₀ place₀ k₀ t12 used belong place k = (t12 ≡ 76 ∷ 82 ∷ []) × Slotted (keeps first bucket level) region count k used belong × (distinct (keysOf (ridesFrom region 0 k)) ≡ true) × Placed region key count k place
 
 abbrev μ-loop : tie.MeasureT-loop
-μ-loop region count first bucket level used₀ belong₀ k₀ t10 used belong k = count - k
+μ-loop region count first bucket level key used₀ belong₀ place₀ k₀ t12 used belong place k = count - k
 
 loop-holds : tie.Need-loop-holds Inv-loop μ-loop
 loop-holds c =
     let a = c .before .args in
-    (refl, slots-none (keeps (a .first) (a .bucket) (a .level)) (a .region .now) (a .count), single-none (a .region .now))
+    (refl, slots-none (keeps (a .first) (a .bucket) (a .level)) (a .region .now) (a .count), single-none (a .region .now), place-none (a .region .now) (a .key) (a .count))
 
 key-at-requires : tie.Need-key-at-requires Inv-loop μ-loop
 key-at-requires c κs = search needs
@@ -40,18 +40,26 @@ has-mark-requires c κs = search needs
 hash-requires : tie.Need-hash-requires Inv-loop μ-loop
 hash-requires c κs = search needs
 
+found-at-requires : tie.Need-found-at-requires Inv-loop μ-loop
+found-at-requires c κs = search needs
+
 find-requires : tie.Need-find-requires Inv-loop μ-loop
 find-requires c κs = search needs
 
+unsound-requires : tie.Need-unsound-requires Inv-loop μ-loop
+unsound-requires c κs = search needs
+
 returns : tie.Need-returns Inv-loop μ-loop
 returns c =
-    let a = c .before .before .before .before .before .before .before .before .before .args in
-    let l = c .before .before .before .before .before .before .before .loop in
-    let key = c .before .before .before .before .before .key-at in
-    let place = c .before .find in
-    let found = place .ensures ∙ ap (λ (x : ℕ). firstFrom (λ i. eqb (keyAt (a .region .now) i) x) (l .k) 0) (key .ensures) in
-    sym (and-none (allBelow (slotUsed (a .region .now)) (a .count) && every (keeps (a .first) (a .bucket) (a .level)) (keysOf (ridesFrom (a .region .now) 0 (a .count)))) _
-    (sym (single-met (a .region .now) (l .k) (l .inv .2) false (found-met (a .region .now) (keyAt (a .region .now) (l .k)) (l .k) (place .result) found (c .if1 .taken)) refl (a .count) (c .before .before .before .before .before .before .loop-test .taken))))
+    let a = c .before .before .before .before .before .before .before .before .before .before .before .args in
+    let l = c .before .before .before .before .before .before .before .before .before .loop in
+    let held = c .before .before .before .before .before .before .before .key-at in
+    let place = c .before .before .find in
+    let found = place .ensures ∙ ap (λ (x : ℕ). firstFrom (λ i. eqb (keyAt (a .region .now) i) x) (l .k) 0) (held .ensures) in (
+      c .unsound .ensures ∙ sym (and-none (allBelow (slotUsed (a .region .now)) (a .count) && every (keeps (a .first) (a .bucket) (a .level)) (keysOf (ridesFrom (a .region .now) 0 (a .count)))) _
+          (sym (single-met (a .region .now) (l .k) (l .inv .2) false (found-met (a .region .now) (keyAt (a .region .now) (l .k)) (l .k) (place .result) found (c .before .if1 .taken)) refl (a .count) (c .before .before .before .before .before .before .before .before .loop-test .taken)))),
+      λ e. absurd (false≢true (sym (c .unsound .ensures) ∙ e)),
+    )
 
 add-k : tie.Need-add-k Inv-loop μ-loop
 add-k c = search needs
@@ -61,23 +69,26 @@ loop-less c = search needs
 
 loop-again : tie.Need-loop-again Inv-loop μ-loop
 loop-again c =
-    let a = c .before .before .before .before .before .before .before .before .before .args in
-    let l = c .before .before .before .before .before .before .before .loop in
-    let key = c .before .before .before .before .before .key-at in
+    let a = c .before .before .before .before .before .before .before .before .before .before .args in
+    let l = c .before .before .before .before .before .before .before .before .loop in
+    let held = c .before .before .before .before .before .before .key-at in
     let place = c .before .find in
-    let found = place .ensures ∙ ap (λ (x : ℕ). firstFrom (λ i. eqb (keyAt (a .region .now) i) x) (l .k) 0) (key .ensures) in (
+    let found = place .ensures ∙ ap (λ (x : ℕ). firstFrom (λ i. eqb (keyAt (a .region .now) i) x) (l .k) 0) (held .ensures) in (
       refl,
-      slots-more (a .first) (a .bucket) (a .level) (a .region .now) (a .count) (l .k) (l .used) (l .belong) (c .before .before .before .has-mark .result) (key .result) (c .before .before .hash .result)
-          (l .inv .1) (c .before .before .before .before .before .before .loop-test .taken) (key .ensures) (c .before .before .before .has-mark .ensures) (c .before .before .hash .ensures .0),
+      slots-more (a .first) (a .bucket) (a .level) (a .region .now) (a .count) (l .k) (l .used) (l .belong) (c .before .before .before .before .has-mark .result) (held .result) (c .before .before .before .hash .result)
+          (l .inv .1) (c .before .before .before .before .before .before .before .loop-test .taken) (held .ensures) (c .before .before .before .before .has-mark .ensures) (c .before .before .before .hash .ensures .0),
       single-more (a .region .now) (l .k) (l .inv .2) true (found-none (a .region .now) (keyAt (a .region .now) (l .k)) (l .k) (place .result) found (c .if1 .left)) refl,
+      place-more (a .region .now) (a .key) (a .count) (l .k) (l .place) (c .before .before .found-at .result) (l .inv .3) (c .before .before .found-at .ensures ∙ ap (λ (x : ℕ). cond (eqb x (a .key)) (l .k) (l .place)) (held .ensures)),
     )
 
 returns-2 : tie.Need-returns-2 Inv-loop μ-loop
 returns-2 c =
     let a = c .before .before .before .args in
     let l = c .before .loop in
-    slots-done (keeps (a .first) (a .bucket) (a .level)) (a .region .now) (a .count) (l .k) (l .used) (l .belong) (l .inv .1) (c .loop-test .left) _
-    (single-done (a .region .now) (a .count) (l .k) (l .inv .1 .within) (c .loop-test .left) (l .inv .2))
+    let single = single-done (a .region .now) (a .count) (l .k) (l .inv .1 .within) (c .loop-test .left) (l .inv .2) in (
+      slots-done (keeps (a .first) (a .bucket) (a .level)) (a .region .now) (a .count) (l .k) (l .used) (l .belong) (l .inv .1) (c .loop-test .left) _ single,
+      λ e. place-done (a .region .now) (a .key) (a .count) (l .place) (place-whole (a .region .now) (a .key) (a .count) (l .k) (l .place) (l .inv .1 .within) (c .loop-test .left) (l .inv .3)) single,
+    )
 
 pub slots-paired-spec : {M : Type 1} → statement M
 slots-paired-spec =
@@ -91,7 +102,9 @@ slots-paired-spec =
     add-has-mark
     has-mark-requires
     hash-requires
+    found-at-requires
     find-requires
+    unsound-requires
     returns
     add-k
     loop-less

@@ -2,9 +2,9 @@
 -- so an equal key before it is met on its chain.
 use Prim.Native.Nat.{ℕ, zero, suc, _+_, _*_, _/_, _%_, _-_, _≤_, _<_}
 use mathlib.Core.Path.{_≡_, refl, sym, ap, subst, _∙_}
-use mathlib.Core.Bool.{Bool, true, false, cond, not}
+use mathlib.Core.Bool.{Bool, true, false, cond, not, true≢false}
 use mathlib.Core.List.{List, []}
-use mathlib.Core.Logic.{⊎-elim}
+use mathlib.Core.Logic.{_⊎_, inl, inr, ⊎-elim}
 use native.Mathlib.Numerals.{add-one}
 use native.Mathlib.Omega.{arith}
 use borrow.Author.Tests.{eq-eqb, ne-eqb, eqb-true}
@@ -13,7 +13,7 @@ use lib.ListN.{length, getD, set, replicate, length-set, length-replicate, getD-
 use lib.Seq.{getD-set-same, getD-set-other}
 use Rattle.address.specs.Compare.{below, same}
 use Rattle.layout.specs.Bytes.{firstFrom}
-use Rattle.layout.specs.Bytes.Tests.{first-before, first-passes}
+use Rattle.layout.specs.Bytes.Tests.{and-none, first-within, first-before, first-passes}
 use Rattle.bucket.specs.Region.{keyAt, ridesFrom, keysOf, every, distinct}
 use Rattle.bucket.specs.Region.Rides.{distinct-append}
 use Rattle.bucket.specs.Region.Judge.{keys-more, fresh-from, stands, distinct-later}
@@ -237,3 +237,64 @@ module _ (region : List ℕ) (count k : ℕ) (latests before : List ℕ) (so : C
 pub chain-done : (region : List ℕ) (count k : ℕ) (latests before : List ℕ) → Chaining region count k latests before → count ≤ k
     → true ≡ distinct (keysOf (ridesFrom region 0 count))
 chain-done region count k latests before so end = single-done region count k (so .within) end (so .single)
+
+-- ---- a key sought on the way: its slot among those so far, or the count
+
+pub record Placed (region : List ℕ) (key count k place : ℕ) : Type 0 where
+  pub at : ((place ≡ count) × ((i : ℕ) → i < k → keyAt region i ≡ key → ⊥)) ⊎ ((place < k) × (keyAt region place ≡ key))
+
+pub place-none : (region : List ℕ) (key count : ℕ) → Placed region key count 0 count
+place-none region key count = record { at = inl (refl, λ i h e. absurd (omega arith)) }
+
+pub place-more : (region : List ℕ) (key count k place next : ℕ) → Placed region key count k place → next ≡ cond (eqb (keyAt region k) key) k place
+    → Placed region key count (k + 1) next
+place-more region key count k place next so e = record { at = ⊎-elim here there (same (keyAt region k) key) }
+  where
+    here : keyAt region k ≡ key → ((next ≡ count) × ((i : ℕ) → i < k + 1 → keyAt region i ≡ key → ⊥)) ⊎ ((next < k + 1) × (keyAt region next ≡ key))
+    here h = inr (omega (arith, is), ap (keyAt region) is ∙ h)
+      where
+        is : next ≡ k
+        is = e ∙ rw (eq-eqb (keyAt region k) key h)
+
+    there : (keyAt region k ≡ key → ⊥) → ((next ≡ count) × ((i : ℕ) → i < k + 1 → keyAt region i ≡ key → ⊥)) ⊎ ((next < k + 1) × (keyAt region next ≡ key))
+    there h = ⊎-elim
+        (λ none. inl (is ∙ none .0, λ i l f. ⊎-elim (λ m. none .1 i m f) (λ m. h (ap (keyAt region) (equal i l m) ∙ f)) (below i k)))
+        (λ some. inr (omega (arith, is, some .0), ap (keyAt region) is ∙ some .1))
+        (so .at)
+      where
+        is : next ≡ place
+        is = e ∙ rw (ne-eqb (keyAt region k) key h)
+
+        equal : (i : ℕ) → i < k + 1 → k ≤ i → k ≡ i
+        equal i l m = omega arith
+
+-- of distinct keys two slots do not hold the same
+apart : (region : List ℕ) (count i j : ℕ) → distinct (keysOf (ridesFrom region 0 count)) ≡ true → i < j → j < count → keyAt region i ≡ keyAt region j → ⊥
+apart region count i j single low high e = true≢false (sym single ∙ distinct-later region (j + 1) count (omega arith)
+    (ap distinct (keys-more region j) ∙ distinct-append (keysOf (ridesFrom region 0 j)) (keyAt region j)
+    ∙ and-none (distinct (keysOf (ridesFrom region 0 j))) _ (stands region (keyAt region j) 0 j i (omega arith) (omega arith) e)))
+
+pub place-whole : (region : List ℕ) (key count k place : ℕ) → k ≤ count → count ≤ k → Placed region key count k place → Placed region key count count place
+place-whole region key count k place within end so = subst (λ (n : ℕ). Placed region key count n place) all so
+  where
+    all : k ≡ count
+    all = omega arith
+
+pub place-done : (region : List ℕ) (key count place : ℕ) → Placed region key count count place → true ≡ distinct (keysOf (ridesFrom region 0 count))
+    → place ≡ firstFrom (λ i. eqb (keyAt region i) key) count 0
+place-done region key count place so single = ⊎-elim
+    (λ none. none .0 ∙ sym (last (⊎-elim (λ l. absurd (none .1 first (omega (arith, l)) (met l))) (λ l. l) (below first count))))
+    (λ some. ⊎-elim (λ l. absurd (apart region count first place (sym single) l (some .0) (met (omega (arith, l, some .0)) ∙ sym (some .1)))) (λ l. meet (some .0) (some .1) l) (below first place))
+    (so .at)
+  where
+    first : ℕ
+    first = firstFrom (λ i. eqb (keyAt region i) key) count 0
+
+    met : first < count → keyAt region first ≡ key
+    met l = eqb-true _ key (first-passes (λ i. eqb (keyAt region i) key) count 0 (omega arith))
+
+    last : count ≤ first → first ≡ count
+    last l = omega (arith, first-within (λ i. eqb (keyAt region i) key) count 0)
+
+    meet : place < count → keyAt region place ≡ key → place ≤ first → place ≡ first
+    meet l e h = ⊎-elim (λ m. absurd (true≢false (sym (eq-eqb (keyAt region place) key e) ∙ first-before (λ i. eqb (keyAt region i) key) count 0 place (omega arith) m))) (λ m. omega (arith, m, h)) (below place first)

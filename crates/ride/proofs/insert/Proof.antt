@@ -62,7 +62,7 @@ walk-route-requires c κs =
     (g .known, g .low, g .formed, g .behind)
 
 put-block-requires-2 : tie.Need-put-block-requires-2
-put-block-requires-2 c κs = (eqb-true _ 24 (and-left _ _ (not-false _ (c .before .before .before .before .before .before .before .before .before .if1 .left))), c .before .before .before .walk-route .ensures .few)
+put-block-requires-2 c κs = (eqb-true _ 24 (and-left _ _ (not-false _ (c .before .before .before .before .before .before .before .before .before .if1 .left))), c .before .before .before .walk-route .ensures .0 .few)
 
 same-length-4 : tie.Need-same-length-4
 same-length-4 c = search needs
@@ -81,8 +81,8 @@ returns-3 c =
     let w = c .before .before .before .before .before .before .walk-route in
     (λ i. record { answer = 7; block = c .before .before .put-block2 .ensures i; table = a .table .now; file = a .file .now })
     ∙ routed-stopped (a .file .now) (a .table .now) (a .client) (a .key) (a .answer .now) (placed (a .file .now) (a .table .now) (a .client) (a .key) (a .payload .now)) (sym (o .ensures .0) ∙ c .before .before .before .before .before .before .before .before .if2 .left) (noted (w .result .walk))
-    (w .ensures .met ∙ ap (λ (x : Image). cut (bucketSoundIn (a .file .now)) (wayOf (a .file .now) x (a .key))) (g .is))
-    (sym (c .before .before .before .before .before .before .walk-route .ensures .sound ∙ ap (λ (x : Image). everyOn (bucketSoundIn (a .file .now)) (wayOf (a .file .now) x (a .key))) (g .is)) ∙ not-true _ (c .before .before .before .before .if3 .taken))
+    (w .ensures .0 .met ∙ ap (λ (x : Image). cut (bucketSoundIn (a .file .now)) (wayOf (a .file .now) x (a .key))) (g .is))
+    (sym (c .before .before .before .before .before .before .walk-route .ensures .0 .sound ∙ ap (λ (x : Image). everyOn (bucketSoundIn (a .file .now)) (wayOf (a .file .now) x (a .key))) (g .is)) ∙ not-true _ (c .before .before .before .before .if3 .taken))
     ∙ insert-is (a .file .now) (a .table .now) (a .client) (a .key) (a .payload .now) (a .answer .now) true (not-false _ (c .before .before .before .before .before .before .before .before .before .before .before .before .if1 .left))
 
 finish-insert-requires : tie.Need-finish-insert-requires
@@ -94,7 +94,8 @@ finish-insert-requires c κs =
       eqb-true _ 24 (and-left _ _ (not-false _ (c .before .before .before .before .before .before .before .before .before .before .before .if1 .left))),
       record {
         opened = g;
-        ended = subst (λ (s : Bool). Walked (a .file .now) (a .key) (wayOf (a .file .now) (o .result .image) (a .key)) (w .result .walk) (w .result .bucket) s) (not-false _ (c .before .before .before .if3 .left)) (w .ensures);
+        ended = subst (λ (s : Bool). Walked (a .file .now) (a .key) (wayOf (a .file .now) (o .result .image) (a .key)) (w .result .walk) (w .result .bucket) s) (not-false _ (c .before .before .before .if3 .left)) (w .ensures .0);
+        slot = w .ensures .1 (not-false _ (c .before .before .before .if3 .left));
       },
       eqb-true _ 14 (and-right (eqb (length (a .answer .now)) 24) _ (not-false _ (c .before .before .before .before .before .before .before .before .before .before .before .if1 .left))),
     )
@@ -114,7 +115,7 @@ returns-4 c =
     let o = c .before .before .before .before .before .before .before .before .before .before .before .before .before .before .before .«open» in
     let g = o .ensures .1 (c .before .before .before .before .before .before .before .before .before .before .before .before .before .before .if2 .left) in
     c .before .before .before .before .before .before .finish-insert .ensures
-    ∙ routed-reached (a .file .now) (a .table .now) (a .client) (a .key) (a .answer .now) (placed (a .file .now) (a .table .now) (a .client) (a .key) (a .payload .now)) (sym (o .ensures .0) ∙ c .before .before .before .before .before .before .before .before .before .before .before .before .before .before .if2 .left) (sym (c .before .before .before .before .before .before .before .before .before .before .before .before .walk-route .ensures .sound ∙ ap (λ (x : Image). everyOn (bucketSoundIn (a .file .now)) (wayOf (a .file .now) x (a .key))) (g .is)) ∙ not-false _ (c .before .before .before .before .before .before .before .before .before .before .if3 .left))
+    ∙ routed-reached (a .file .now) (a .table .now) (a .client) (a .key) (a .answer .now) (placed (a .file .now) (a .table .now) (a .client) (a .key) (a .payload .now)) (sym (o .ensures .0) ∙ c .before .before .before .before .before .before .before .before .before .before .before .before .before .before .if2 .left) (sym (c .before .before .before .before .before .before .before .before .before .before .before .before .walk-route .ensures .0 .sound ∙ ap (λ (x : Image). everyOn (bucketSoundIn (a .file .now)) (wayOf (a .file .now) x (a .key))) (g .is)) ∙ not-false _ (c .before .before .before .before .before .before .before .before .before .before .if3 .left))
     ∙ insert-is (a .file .now) (a .table .now) (a .client) (a .key) (a .payload .now) (a .answer .now) true (not-false _ (c .before .before .before .before .before .before .before .before .before .before .before .before .before .before .before .before .before .before .if1 .left))
 
 pub insert-spec : {M : Type 1} → statement M

@@ -72,8 +72,8 @@ returns-3 c =
     let w = c .before .before .before .before .before .before .walk-route in
     (λ i. record { answer = 7; block = c .before .before .put-block2 .ensures i; table = a .table .now; file = a .file .now })
     ∙ routed-stopped (a .file .now) (a .table .now) (a .client) (a .key) (a .answer .now) (searched (a .file .now) (a .table .now) (a .client) (a .key)) (sym (o .ensures .0) ∙ c .before .before .before .before .before .before .before .if2 .left) (noted (w .result .walk))
-    (w .ensures .met ∙ ap (λ (x : Image). cut (bucketSoundIn (a .file .now)) (wayOf (a .file .now) x (a .key))) (g .is))
-    (sym (c .before .before .before .before .before .before .walk-route .ensures .sound ∙ ap (λ (x : Image). everyOn (bucketSoundIn (a .file .now)) (wayOf (a .file .now) x (a .key))) (g .is)) ∙ not-true _ (c .before .before .before .before .if3 .taken))
+    (w .ensures .0 .met ∙ ap (λ (x : Image). cut (bucketSoundIn (a .file .now)) (wayOf (a .file .now) x (a .key))) (g .is))
+    (sym (c .before .before .before .before .before .before .walk-route .ensures .0 .sound ∙ ap (λ (x : Image). everyOn (bucketSoundIn (a .file .now)) (wayOf (a .file .now) x (a .key))) (g .is)) ∙ not-true _ (c .before .before .before .before .if3 .taken))
     ∙ search-is (a .file .now) (a .table .now) (a .client) (a .key) (a .answer .now) true (eq-eqb _ 24 (c .before .before .before .before .before .before .before .before .before .before .if1 .left))
 
 finish-search-requires : tie.Need-finish-search-requires
@@ -85,7 +85,8 @@ finish-search-requires c κs =
       c .before .before .before .before .before .before .before .before .if1 .left,
       record {
         opened = g;
-        ended = subst (λ (s : Bool). Walked (a .file .now) (a .key) (wayOf (a .file .now) (o .result .image) (a .key)) (w .result .walk) (w .result .bucket) s) (not-false _ (c .before .before .if3 .left)) (w .ensures);
+        ended = subst (λ (s : Bool). Walked (a .file .now) (a .key) (wayOf (a .file .now) (o .result .image) (a .key)) (w .result .walk) (w .result .bucket) s) (not-false _ (c .before .before .if3 .left)) (w .ensures .0);
+        slot = w .ensures .1 (not-false _ (c .before .before .if3 .left));
       },
     )
 
@@ -101,7 +102,7 @@ returns-4 c =
     let o = c .before .before .before .before .before .before .before .before .before .before .before .«open» in
     let g = o .ensures .1 (c .before .before .before .before .before .before .before .before .before .before .if2 .left) in
     c .before .before .before .before .finish-search .ensures
-    ∙ routed-reached (a .file .now) (a .table .now) (a .client) (a .key) (a .answer .now) (searched (a .file .now) (a .table .now) (a .client) (a .key)) (sym (o .ensures .0) ∙ c .before .before .before .before .before .before .before .before .before .before .if2 .left) (sym (c .before .before .before .before .before .before .before .before .before .walk-route .ensures .sound ∙ ap (λ (x : Image). everyOn (bucketSoundIn (a .file .now)) (wayOf (a .file .now) x (a .key))) (g .is)) ∙ not-false _ (c .before .before .before .before .before .before .before .if3 .left))
+    ∙ routed-reached (a .file .now) (a .table .now) (a .client) (a .key) (a .answer .now) (searched (a .file .now) (a .table .now) (a .client) (a .key)) (sym (o .ensures .0) ∙ c .before .before .before .before .before .before .before .before .before .before .if2 .left) (sym (c .before .before .before .before .before .before .before .before .before .walk-route .ensures .0 .sound ∙ ap (λ (x : Image). everyOn (bucketSoundIn (a .file .now)) (wayOf (a .file .now) x (a .key))) (g .is)) ∙ not-false _ (c .before .before .before .before .before .before .before .if3 .left))
     ∙ search-is (a .file .now) (a .table .now) (a .client) (a .key) (a .answer .now) true (eq-eqb _ 24 (c .before .before .before .before .before .before .before .before .before .before .before .before .before .if1 .left))
 
 pub search-spec : {M : Type 1} → statement M

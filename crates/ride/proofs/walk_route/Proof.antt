@@ -2,7 +2,7 @@
 use borrow.Author.Needs.{needs}
 use Prim.Native.Nat.{ℕ, _≤_, _-_}
 use mathlib.Core.Path.{refl, sym, ap, subst, _∙_}
-use mathlib.Core.Bool.{true, false}
+use mathlib.Core.Bool.{true, false, false≢true}
 use mathlib.Core.List.{List}
 use native.Mathlib.Omega.{arith}
 use Rattle.address.specs.declared.Image.{Image}
@@ -38,8 +38,8 @@ loop-holds c =
 note-requires : tie.Need-note-requires Inv-loop μ-loop
 note-requires c κs = search needs
 
-bucket-sound-requires : tie.Need-bucket-sound-requires Inv-loop μ-loop
-bucket-sound-requires c κs =
+judge-bucket-requires : tie.Need-judge-bucket-requires Inv-loop μ-loop
+judge-bucket-requires c κs =
     let d = c .before .before .before .before .before in
     let a = d .args in
     let l = c .before .loop in
@@ -63,9 +63,9 @@ returns c =
     let a = d .args in
     let l = c .before .before .before .before .before .before .loop in
     let first = c .before .before .before .before .before .before .before .address in
-    subst (λ (way : List ℕ). Walked (a .file .now) (a .key) way (c .before .before .before .before .before .note .result) (l .bucket) true) (way-is (a .file .now) (a .image) (a .key) (first .result) (first .ensures))
-    (met-keep (a .file .now) (a .key) (d .pre .0 .ranges .formed) (wayFrom (a .file .now) (a .key) (first .result)) (l .walk) (c .before .before .before .before .before .note .result) (l .bucket) (l .inv .1) (c .before .before .before .before .before .note .ensures .0) (c .before .before .before .before .before .note .ensures .1)
-    (c .before .before .before .before .bucket-sound .result) (c .before .before .before .before .bucket-sound .ensures) (c .before .before .before .level-of .result) (c .before .before .before .level-of .ensures ∙ ap (λ (s : Image). level 1 s (l .bucket)) (d .pre .0 .state)) (sym (c .before .before .fate-at .ensures) ∙ c .enum-told .given .1) .1)
+    let m = met-keep (a .file .now) (a .key) (d .pre .0 .ranges .formed) (wayFrom (a .file .now) (a .key) (first .result)) (l .walk) (c .before .before .before .before .before .note .result) (l .bucket) (l .inv .1) (c .before .before .before .before .before .note .ensures .0) (c .before .before .before .before .before .note .ensures .1)
+    (c .before .before .before .before .judge-bucket .result .sound) (c .before .before .before .before .judge-bucket .ensures .0) (c .before .before .before .level-of .result) (c .before .before .before .level-of .ensures ∙ ap (λ (s : Image). level 1 s (l .bucket)) (d .pre .0 .state)) (sym (c .before .before .fate-at .ensures) ∙ c .enum-told .given .1) in
+    (subst (λ (way : List ℕ). Walked (a .file .now) (a .key) way (c .before .before .before .before .before .note .result) (l .bucket) true) (way-is (a .file .now) (a .image) (a .key) (first .result) (first .ensures)) (m .1), λ e. c .before .before .before .before .judge-bucket .ensures .1 (c .before .before .before .before .judge-bucket .ensures .0 ∙ m .0))
 
 enum-known-fate : tie.Need-enum-known-fate Inv-loop μ-loop
 enum-known-fate c = search needs
@@ -80,7 +80,7 @@ loop-again c =
     let l = c .before .before .before .before .before .before .before .loop in
     let first = c .before .before .before .before .before .before .before .before .address in
     let m = met-send (a .file .now) (a .key) (d .pre .0 .ranges .formed) (wayFrom (a .file .now) (a .key) (first .result)) (l .walk) (c .before .before .before .before .before .before .note .result) (l .bucket) (l .inv .1) (c .before .before .before .before .before .before .note .ensures .0) (c .before .before .before .before .before .before .note .ensures .1)
-    (c .before .before .before .before .before .bucket-sound .result) (c .before .before .before .before .before .bucket-sound .ensures) (c .before .before .before .before .level-of .result) (c .before .before .before .before .level-of .ensures ∙ ap (λ (s : Image). level 1 s (l .bucket)) (d .pre .0 .state)) _ (sym (c .before .before .before .fate-at .ensures) ∙ c .before .fate .given .1) in
+    (c .before .before .before .before .before .judge-bucket .result .sound) (c .before .before .before .before .before .judge-bucket .ensures .0) (c .before .before .before .before .level-of .result) (c .before .before .before .before .level-of .ensures ∙ ap (λ (s : Image). level 1 s (l .bucket)) (d .pre .0 .state)) _ (sym (c .before .before .before .fate-at .ensures) ∙ c .before .fate .given .1) in
     (m .1, m .0)
 
 enum-told-2 : tie.Need-enum-told-2 Inv-loop μ-loop
@@ -92,9 +92,9 @@ returns-2 c =
     let a = d .args in
     let l = c .before .before .before .before .before .before .loop in
     let first = c .before .before .before .before .before .before .before .address in
-    subst (λ (way : List ℕ). Walked (a .file .now) (a .key) way (c .before .before .before .before .before .note .result) (l .bucket) false) (way-is (a .file .now) (a .image) (a .key) (first .result) (first .ensures))
-    (met-unsound (a .file .now) (a .key) (d .pre .0 .ranges .formed) (wayFrom (a .file .now) (a .key) (first .result)) (l .walk) (c .before .before .before .before .before .note .result) (l .bucket) (l .inv .1) (c .before .before .before .before .before .note .ensures .0) (c .before .before .before .before .before .note .ensures .1)
-    (c .before .before .before .before .bucket-sound .result) (c .before .before .before .before .bucket-sound .ensures) (c .before .before .before .level-of .result) (c .before .before .before .level-of .ensures ∙ ap (λ (s : Image). level 1 s (l .bucket)) (d .pre .0 .state)) (sym (c .before .before .fate-at .ensures) ∙ c .enum-told2 .given .1))
+    let m = met-unsound (a .file .now) (a .key) (d .pre .0 .ranges .formed) (wayFrom (a .file .now) (a .key) (first .result)) (l .walk) (c .before .before .before .before .before .note .result) (l .bucket) (l .inv .1) (c .before .before .before .before .before .note .ensures .0) (c .before .before .before .before .before .note .ensures .1)
+    (c .before .before .before .before .judge-bucket .result .sound) (c .before .before .before .before .judge-bucket .ensures .0) (c .before .before .before .level-of .result) (c .before .before .before .level-of .ensures ∙ ap (λ (s : Image). level 1 s (l .bucket)) (d .pre .0 .state)) (sym (c .before .before .fate-at .ensures) ∙ c .enum-told2 .given .1) in
+    (subst (λ (way : List ℕ). Walked (a .file .now) (a .key) way (c .before .before .before .before .before .note .result) (l .bucket) false) (way-is (a .file .now) (a .image) (a .key) (first .result) (first .ensures)) m, λ e. absurd (false≢true e))
 
 pub walk-route-spec : {M : Type 1} → statement M
 walk-route-spec =
@@ -105,7 +105,7 @@ walk-route-spec =
     address-requires
     loop-holds
     note-requires
-    bucket-sound-requires
+    judge-bucket-requires
     level-of-requires
     fate-at-requires
     enum-told

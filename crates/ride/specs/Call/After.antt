@@ -18,7 +18,7 @@ use Rattle.address.specs.Rules.Route.{Delivered, last, last-one, delivered, rou
 use Rattle.address.specs.Rules.Adjust.{imageAfter-is, after-formed, after-behind}
 use Rattle.layout.specs.Bytes.{part}
 use Rattle.layout.specs.Bytes.Edit.{part-is, part-part}
-use Rattle.bucket.specs.Region.{slotAt, rideAt}
+use Rattle.bucket.specs.Region.{slotAt, rideAt, slotOf}
 use Rattle.bucket.specs.Region.Judge.{ride-payload}
 use Rattle.client.specs.Table.{imageOf, withImage}
 use Rattle.file.specs.File.{mostOf, slotsOf, stateOf, startOf, regionOf}
@@ -97,9 +97,10 @@ module _ (file : List ℕ) (header : Header) (seen : Known file header) (image :
 
 -- ---- what is known once the key's own bucket is reached
 
-pub record Reached (file table : List ℕ) (client key : ℕ) (header : Header) (image : Image) (walk : Walk) (a : ℕ) : Type 0 where
+pub record Reached (file table : List ℕ) (client key : ℕ) (header : Header) (image : Image) (walk : Walk) (a place : ℕ) : Type 0 where
   pub opened : Opening file table client header image
   pub ended : Walked file key (wayOf file image key) walk a true
+  pub slot : place ≡ slotOf (regionOf file a) key
 
 -- then the route noted is the client's, the bucket is the key's own, and the image to be written is small
 pub record Arrived (file table : List ℕ) (client key : ℕ) (header : Header) (image : Image) (walk : Walk) (a : ℕ) : Type 0 where
@@ -111,10 +112,10 @@ pub record Arrived (file table : List ℕ) (client key : ℕ) (header : Header) 
   pub written : (after : List ℕ) → after ≡ withImage table client (adjusted firstBuckets image (walk .first) (level firstBuckets (header .state) (walk .first)) (eqb (walk .count) 1))
       → after ≡ adjustedTable file table client key
 
-pub arrived : (file table : List ℕ) (client key : ℕ) (header : Header) (image : Image) (walk : Walk) (a : ℕ) → Reached file table client key header image walk a
+pub arrived : (file table : List ℕ) (client key : ℕ) (header : Header) (image : Image) (walk : Walk) (a place : ℕ) → Reached file table client key header image walk a place
     → Arrived file table client key header image walk a
 unfolding adjustedTable
-arrived file table client key header image walk a r = record {
+arrived file table client key header image walk a place r = record {
   way = r .ended .whole refl ∙ ap (λ (x : Image). wayOf file x key) (r .opened .is);
   own = r .ended .own refl;
   first = first-small file header (r .opened .known) image (r .opened .formed) (r .opened .behind) key walk a (r .ended);

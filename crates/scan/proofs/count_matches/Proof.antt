@@ -22,8 +22,8 @@ abbrev μ-loop : tie.MeasureT-loop
 start-requires : tie.Need-start-requires Inv-loop μ-loop
 start-requires c κs = search needs
 
-held-requires : tie.Need-held-requires Inv-loop μ-loop
-held-requires c κs = search needs
+held-in-requires : tie.Need-held-in-requires Inv-loop μ-loop
+held-in-requires c κs = search needs
 
 loop-holds : tie.Need-loop-holds Inv-loop μ-loop
 loop-holds c =
@@ -43,7 +43,7 @@ read8-requires : tie.Need-read8-requires Inv-loop μ-loop
 read8-requires c κs =
     let d = c .before .before .before .before .before in
     let s = c .before .before .before .start in
-    key-fits (d .pre .0) (d .args .bucket) (s .result) (s .ensures .0) (d .pre .1) (d .pre .2) (c .before .loop .k) (omega (arith, c .before .before .held .ensures .0))
+    key-fits (d .pre .0) (d .args .bucket) (s .result) (s .ensures .0) (d .pre .1) (d .pre .2) (c .before .loop .k) (omega (arith, c .before .before .held-in .ensures .0))
 
 of-lift-requires : tie.Need-of-lift-requires Inv-loop μ-loop
 of-lift-requires c κs = search needs
@@ -64,7 +64,7 @@ loop-again c =
     let l = c .before .before .before .before .loop in
     let s = c .before .before .before .before .before .before .start in
     let r = c .before .before .read8 in
-    let used : l .k < countOf (regionOf (a .file .now) (a .bucket)) = omega (arith, c .before .before .before .before .before .held .ensures .0) in
+    let used : l .k < countOf (regionOf (a .file .now) (a .bucket)) = omega (arith, c .before .before .before .before .before .held-in .ensures .0) in
     let more : l .k < length (keysIn (a .file .now) (a .bucket)) = omega (arith, used, keys-in-count (a .file .now) (a .bucket)) in
     let read = r .ensures ∙ key-read (d .pre .0) (a .bucket) (s .result) (s .ensures .0) (d .pre .1) (d .pre .2) (l .k) used in
     ⊎-elim
@@ -75,7 +75,7 @@ loop-again c =
 returns : tie.Need-returns Inv-loop μ-loop
 returns c =
     let a = c .before .before .before .before .before .args in
-    let h = c .before .before .held in
+    let h = c .before .before .held-in in
     let all = count-done (c .before .loop .inv) (omega (arith, h .ensures .0, keys-in-count (a .file .now) (a .bucket))) in
     (all, omega (arith, all, match-few (a .lift) (keysIn (a .file .now) (a .bucket)), keys-in-count (a .file .now) (a .bucket), h .ensures .0, h .ensures .1))
 
@@ -86,7 +86,7 @@ count-matches-spec =
     Inv-loop
     μ-loop
     start-requires
-    held-requires
+    held-in-requires
     loop-holds
     mul-read8
     add-read8

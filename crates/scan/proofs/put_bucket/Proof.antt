@@ -22,8 +22,8 @@ abbrev μ-loop : tie.MeasureT-loop
 start-requires : tie.Need-start-requires Inv-loop μ-loop
 start-requires c κs = search needs
 
-held-requires : tie.Need-held-requires Inv-loop μ-loop
-held-requires c κs = search needs
+held-in-requires : tie.Need-held-in-requires Inv-loop μ-loop
+held-in-requires c κs = search needs
 
 loop-holds : tie.Need-loop-holds Inv-loop μ-loop
 loop-holds c =
@@ -43,7 +43,7 @@ read8-requires : tie.Need-read8-requires Inv-loop μ-loop
 read8-requires c κs =
     let pre = c .before .before .before .before .before .before .pre in
     let s = c .before .before .before .start in
-    key-fits (pre .0) (c .before .before .before .before .before .before .args .bucket) (s .result) (s .ensures .0) (pre .1) (pre .2) (c .before .loop .k) (omega (arith, c .before .before .held .ensures .0))
+    key-fits (pre .0) (c .before .before .before .before .before .before .args .bucket) (s .result) (s .ensures .0) (pre .1) (pre .2) (c .before .loop .k) (omega (arith, c .before .before .held-in .ensures .0))
 
 of-lift-requires : tie.Need-of-lift-requires Inv-loop μ-loop
 of-lift-requires c κs = search needs
@@ -58,7 +58,7 @@ slice-write-matches c =
     let l = c .before .before .before .before .loop in
     let s = c .before .before .before .before .before .before .start in
     let r = c .before .before .read8 in
-    let used : l .k < countOf (regionOf (a .file .now) (a .bucket)) = omega (arith, c .before .before .before .before .before .held .ensures .0) in
+    let used : l .k < countOf (regionOf (a .file .now) (a .bucket)) = omega (arith, c .before .before .before .before .before .held-in .ensures .0) in
     fill-fits (l .inv) (pre .3) (r .result) (r .ensures ∙ key-read (pre .0) (a .bucket) (s .result) (s .ensures .0) (pre .1) (pre .2) (l .k) used)
     (omega (arith, used, keys-in-count (a .file .now) (a .bucket))) (sym (c .before .of-lift .ensures) ∙ c .if1 .taken)
 
@@ -78,7 +78,7 @@ loop-again c =
     let l = c .before .before .before .before .loop in
     let s = c .before .before .before .before .before .before .start in
     let r = c .before .before .read8 in
-    let used : l .k < countOf (regionOf (a .file .now) (a .bucket)) = omega (arith, c .before .before .before .before .before .held .ensures .0) in
+    let used : l .k < countOf (regionOf (a .file .now) (a .bucket)) = omega (arith, c .before .before .before .before .before .held-in .ensures .0) in
     let read : r .result ≡ getD (keysIn (a .file .now) (a .bucket)) (l .k) 0 = r .ensures ∙ key-read (pre .0) (a .bucket) (s .result) (s .ensures .0) (pre .1) (pre .2) (l .k) used in
     let more : l .k < length (keysIn (a .file .now) (a .bucket)) = omega (arith, used, keys-in-count (a .file .now) (a .bucket)) in
     ⊎-elim
@@ -92,7 +92,7 @@ same-length c = search needs
 returns : tie.Need-returns Inv-loop μ-loop
 returns c =
     let a = c .before .before .before .before .before .before .args in
-    fill-done (c .before .loop .inv) (omega (arith, c .before .before .held .ensures .0, keys-in-count (a .file .now) (a .bucket)))
+    fill-done (c .before .loop .inv) (omega (arith, c .before .before .held-in .ensures .0, keys-in-count (a .file .now) (a .bucket)))
 
 pub put-bucket-spec : {M : Type 1} → statement M
 put-bucket-spec =
@@ -101,7 +101,7 @@ put-bucket-spec =
     Inv-loop
     μ-loop
     start-requires
-    held-requires
+    held-in-requires
     loop-holds
     mul-read8
     add-read8

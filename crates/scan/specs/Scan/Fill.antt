@@ -16,7 +16,7 @@ use Rattle.bucket.specs.Region.Judge.{key-is}
 use Rattle.bucket.specs.Region.Keep.{keys-at}
 use Rattle.file.specs.File.{slotsOf, bucketsOf, startOf, regionOf, bucketSoundIn}
 use Rattle.file.specs.File.Judge.{Known}
-use Rattle.file.specs.File.Region.{region-is, count-in, sound-few, known-fits}
+use Rattle.file.specs.File.Region.{region-is, sound-few, known-fits}
 use Rattle.file.specs.declared.Header.{Header}
 use Rattle.ride.specs.Call.{everyOn}
 use Rattle.scan.specs.Scan.{ofLift, matching, keysIn, matchesOn}
@@ -62,16 +62,7 @@ module _ {file : List ℕ} {header : Header} (seen : Known file header) (a at : 
   placed : at ≡ startOf (slotsOf file) a
   placed = ea ∙ ap (λ (S : ℕ). startOf S a) (seen .slots)
 
-  pub head-fits : at + 4 + 2 ≤ length file
-  head-fits = omega (arith, known-fits file header seen a at ea (omega (arith, seen .ranges .few)))
-
   module _ (sound : bucketSoundIn file a ≡ true) where
-    pub held-is : (n : ℕ) → n ≡ leAt 2 file (at + 4) → (n ≡ countOf (regionOf file a)) × (n ≤ 64)
-    held-is n en = (is, omega (arith, is, sound-few file a sound, seen .ranges .figured .few-slots))
-      where
-        is : n ≡ countOf (regionOf file a)
-        is = en ∙ ap (λ (p : ℕ). leAt 2 file (p + 4)) placed ∙ sym (count-in file a)
-
     module _ (k : ℕ) (used : k < countOf (regionOf file a)) where
       pub key-fits : at + (10 + 24 * k) + 8 ≤ length file
       key-fits = omega (arith, known-fits file header seen a at ea (omega (arith, seen .ranges .few)), sound-few file a sound, seen .slots)

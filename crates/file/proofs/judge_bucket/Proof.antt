@@ -1,12 +1,14 @@
--- `file::bucket_sound` judges the bucket's own region at its own level.
+-- `file::judge_bucket` judges the bucket's own region at its own level.
+use Prim.Native.Nat.{ℕ}
 use mathlib.Core.Path.{ap, _∙_}
+use mathlib.Core.List.{List}
 use native.Mathlib.Omega.{arith}
-use Rattle.bucket.specs.Region.{soundWith}
+use Rattle.bucket.specs.Region.{soundWith, slotOf}
 use Rattle.address.specs.Rules.{keeps}
 use Rattle.file.specs.File.Region.{known-cut, known-fits, known-long, known-level, known-judged}
 use borrow.Author.Needs.{needs}
-use Rattle.file.proofs.bucket_sound.Statement.{statement}
-use Rattle.file.proofs.bucket_sound.Tie as tie
+use Rattle.file.proofs.judge_bucket.Statement.{statement}
+use Rattle.file.proofs.judge_bucket.Tie as tie
 
 start-requires : tie.Need-start-requires
 start-requires c κs = search needs
@@ -52,12 +54,15 @@ returns c =
     let a = d .args in
     let l = c .before .before .level-of in
     let s = c .before .before .before .start in
-    c .judge .ensures
-    ∙ ap (soundWith (a .header .slots) (l .result) (keeps 1 (a .bucket) (l .result))) (known-cut (a .file .now) (a .header) (d .pre .0) (a .bucket) (s .result) (s .ensures .0))
-    ∙ known-judged (a .file .now) (a .header) (d .pre .0) (a .bucket) (l .result) (d .pre .1) (l .ensures)
+    let cut = known-cut (a .file .now) (a .header) (d .pre .0) (a .bucket) (s .result) (s .ensures .0) in (
+      c .judge .ensures .0
+          ∙ ap (soundWith (a .header .slots) (l .result) (keeps 1 (a .bucket) (l .result))) cut
+          ∙ known-judged (a .file .now) (a .header) (d .pre .0) (a .bucket) (l .result) (d .pre .1) (l .ensures),
+      λ e. c .judge .ensures .1 e ∙ ap (λ (region : List ℕ). slotOf region (a .key)) cut,
+    )
 
-pub bucket-sound-spec : {M : Type 1} → statement M
-bucket-sound-spec =
+pub judge-bucket-spec : {M : Type 1} → statement M
+judge-bucket-spec =
     tie.close
     (tie.spec
     start-requires
