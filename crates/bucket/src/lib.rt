@@ -10,7 +10,7 @@ ghost use Rattle.layout.specs.Bytes.{leBytes, allBelow, firstFrom, edit, part};
 ghost use mathlib.Core.List.{[]};
 ghost use Rattle.bucket.specs.Region.{slotAt, countOf, slotUsed, keyAt, ridesFrom, ridesOf, keysOf, every, distinct, headSound, soundWith, slotOf, headBytes, slotBytes, encode, kept};
 ghost use Rattle.bucket.specs.Region.Divide.{Halves, Parted};
-ghost use Rattle.bucket.specs.Region.Single.{Chained, fingerprint, latestOf};
+ghost use Rattle.bucket.specs.Region.Single.{Chained, SoughtAt, fingerprint, latestOf};
 
 // Whether a head is well formed, of the level given and with a count of at most `slots`.
 fn head_sound(region: &[u8], slots: u32, level: u32) -> bool
@@ -115,21 +115,31 @@ fn fingerprint(key: u64) -> usize
     ((ride * 2654435769 + lift * 1500000001) / 8388608 % 512) as usize
 }
 
-// Whether a key differs from those of the first slots: of its fingerprint they are the latest, one less than a number
-// that is not 0, the one before that, and so on.
-fn differs(region: &[u8], before: &[u8], count: usize, latest: usize, key: u64) -> bool
+// One more than a slot of the first ones that holds a key, and 0 if none does: of the key's fingerprint they are the latest, one
+// less than a number that is not 0, the one before that, and so on.
+fn seek(region: &[u8], before: &[u8], count: usize, latest: usize, key: u64) -> usize
     requires { ⌜ (slotAt count ≤ length (now region)) × (count ≤ 64) × Chained (now region) (now before) count × (latest ≡ latestOf (now region) (fingerprint key) count) ⌝ }
-    ensures { λ r. ⌜ r ≡ every (λ (other : ℕ). not (eqb other key)) (keysOf (ridesFrom (now (region .entry)) 0 count)) ⌝ }
+    ensures { λ r. ⌜ SoughtAt (now (region .entry)) key count r ⌝ }
 {
     let mut next = latest;
     while next != 0 {
         let slot = next - 1;
         if key_at(region, slot) == key {
-            return false;
+            return next;
         }
         next = before[slot] as usize;
     }
-    true
+    next
+}
+
+// The slot of one more than it, or the count.
+fn slot_before(found: usize, count: usize) -> usize
+    ensures { λ r. ⌜ r ≡ cond (eqb found 0) count (found - 1) ⌝ }
+{
+    if found == 0 {
+        return count;
+    }
+    found - 1
 }
 
 // The same as `slots_sound`, with tables to chain each slot to the latest before it of its key's fingerprint, where an equal
@@ -149,25 +159,25 @@ fn slots_chained(
 {
     let mut used = true;
     let mut belong = true;
-    let mut place = count;
     let mut k = 0;
     while k < count {
         let held = key_at(region, k);
         used = used & layout::has_mark(region, 8 + 24 * k, b"LR");
         belong = belong & (address::hash(first, level, held) == bucket);
-        place = found_at(held == key, k, place);
         let mark = fingerprint(held);
         let next = latest[mark];
-        if !differs(region, before, k, next as usize, held) {
+        if seek(region, before, k, next as usize, held) != 0 {
             return unsound();
         }
         before[k] = next;
         latest[mark] = (k + 1) as u8;
         k = k + 1;
     }
+    let last = latest[fingerprint(key)];
+    let found = seek(region, before, count, last as usize, key);
     Judged {
         sound: used & belong,
-        place,
+        place: slot_before(found, count),
     }
 }
 

@@ -1,33 +1,32 @@
--- `bucket::slots_chained`: marks so far, what is left to belong, the slots so far chained, and the key's slot among them; each turn seeks one key along its chain and adds its slot.
+-- `bucket::slots_chained`: marks so far, what is left to belong, and the slots so far chained; each turn seeks one key along its chain and adds its slot.
+-- In the end the key asked for is sought in the same way.
 use borrow.Author.Needs.{needs}
 use Prim.Native.Nat.{ℕ, _-_}
-use mathlib.Core.Path.{_≡_, refl, sym, ap, _∙_}
-use mathlib.Core.Bool.{not, cond, _&&_, false≢true}
+use mathlib.Core.Path.{_≡_, refl, sym, ap, subst, _∙_}
+use mathlib.Core.Bool.{true, false, _&&_, false≢true}
 use mathlib.Core.List.{_∷_, []}
 use native.Mathlib.Omega.{arith}
-use lib.Dec.{eqb}
 use lib.ListN.{length, length-replicate}
-use borrow.Author.Tests.{not-true, not-false}
 use Rattle.address.specs.Rules.{keeps}
 use Rattle.layout.specs.Bytes.{allBelow}
 use Rattle.layout.specs.Bytes.Tests.{and-none}
-use Rattle.bucket.specs.Region.{slotUsed, ridesFrom, keysOf, every}
+use Rattle.bucket.specs.Region.{slotUsed, keyAt, ridesFrom, keysOf, every}
 use Rattle.bucket.specs.Region.Judge.{Slotted, slots-none, slots-more, slots-done}
-use Rattle.bucket.specs.Region.Single.{fingerprint, Chaining, chain-none, chain-start, chain-met, chain-more, chain-done, Placed, place-none, place-more, place-whole, place-done}
+use Rattle.bucket.specs.Region.Single.{fingerprint, SoughtAt, sought-stands, sought-fresh, Chaining, chain-none, chain-start, chain-met, chain-more, chain-whole, chain-done, place-sought, place-done}
 use Rattle.bucket.proofs.slots_chained.Statement.{statement}
 use Rattle.bucket.proofs.slots_chained.Tie as tie
 
 abbrev Inv-loop : tie.InvT-loop
-Inv-loop region count first bucket level key latest₀ before₀ used₀ belong₀ place₀ k₀ t16 latest before used belong place k = (t16 ≡ 76 ∷ 82 ∷ []) × Slotted (keeps first bucket level) region count k used belong × Chaining region count k latest before × Placed region key count k place
+Inv-loop region count first bucket level key latest₀ before₀ used₀ belong₀ k₀ t17 latest before used belong k = (t17 ≡ 76 ∷ 82 ∷ []) × Slotted (keeps first bucket level) region count k used belong × Chaining region count k latest before
 
 abbrev μ-loop : tie.MeasureT-loop
-μ-loop region count first bucket level key latest₀ before₀ used₀ belong₀ place₀ k₀ t16 latest before used belong place k = count - k
+μ-loop region count first bucket level key latest₀ before₀ used₀ belong₀ k₀ t17 latest before used belong k = count - k
 
 loop-holds : tie.Need-loop-holds Inv-loop μ-loop
 loop-holds c =
     let d = c .before .before .before in
     let a = d .args in
-    (refl, slots-none (keeps (a .first) (a .bucket) (a .level)) (a .region .now) (a .count), chain-none (a .region .now) (a .count) (a .latest .now) (a .before .now) (d .pre .3) (d .pre .4), place-none (a .region .now) (a .key) (a .count))
+    (refl, slots-none (keeps (a .first) (a .bucket) (a .level)) (a .region .now) (a .count), chain-none (a .region .now) (a .count) (a .latest .now) (a .before .now) (d .pre .3) (d .pre .4))
 
 key-at-requires : tie.Need-key-at-requires Inv-loop μ-loop
 key-at-requires c κs = search needs
@@ -44,50 +43,47 @@ has-mark-requires c κs = search needs
 hash-requires : tie.Need-hash-requires Inv-loop μ-loop
 hash-requires c κs = search needs
 
-found-at-requires : tie.Need-found-at-requires Inv-loop μ-loop
-found-at-requires c κs = search needs
-
 fingerprint-requires : tie.Need-fingerprint-requires Inv-loop μ-loop
 fingerprint-requires c κs = search needs
 
 slice-read-next : tie.Need-slice-read-next Inv-loop μ-loop
 slice-read-next c = search needs
 
-cast-differs : tie.Need-cast-differs Inv-loop μ-loop
-cast-differs c =
-    let a = c .before .before .before .before .before .before .before .before .before .before .before .before .before .args in
-    let l = c .before .before .before .before .before .before .before .before .before .loop in
+cast-seek : tie.Need-cast-seek Inv-loop μ-loop
+cast-seek c =
+    let a = c .before .before .before .before .before .before .before .before .before .before .before .before .args in
+    let l = c .before .before .before .before .before .before .before .before .loop in
     let f = c .before .before .fingerprint in
-    let start = chain-start (a .region .now) (a .count) (l .k) (l .latest) (l .before) (l .inv .2) (f .result) (c .before .before .before .before .before .before .before .key-at .result) (f .ensures .0) (f .ensures .1) in
+    let start = chain-start (a .region .now) (a .count) (l .k) (l .latest) (l .before) (l .inv .2) (f .result) (c .before .before .before .before .before .before .key-at .result) (f .ensures .0) (f .ensures .1) in
     omega (arith, start .1, l .inv .2 .within)
 
-differs-requires : tie.Need-differs-requires Inv-loop μ-loop
-differs-requires c κs =
-    let a = c .before .before .before .before .before .before .before .before .before .before .before .before .before .args in
-    let l = c .before .before .before .before .before .before .before .before .before .loop in
+seek-requires : tie.Need-seek-requires Inv-loop μ-loop
+seek-requires c κs =
+    let a = c .before .before .before .before .before .before .before .before .before .before .before .before .args in
+    let l = c .before .before .before .before .before .before .before .before .loop in
     let f = c .before .before .fingerprint in
-    let start = chain-start (a .region .now) (a .count) (l .k) (l .latest) (l .before) (l .inv .2) (f .result) (c .before .before .before .before .before .before .before .key-at .result) (f .ensures .0) (f .ensures .1) in
+    let start = chain-start (a .region .now) (a .count) (l .k) (l .latest) (l .before) (l .inv .2) (f .result) (c .before .before .before .before .before .before .key-at .result) (f .ensures .0) (f .ensures .1) in
     (omega (arith, l .inv .2 .within), omega (arith, l .inv .2 .within), l .inv .2 .chained, start .0)
 
 unsound-requires : tie.Need-unsound-requires Inv-loop μ-loop
 unsound-requires c κs = search needs
 
 same-length : tie.Need-same-length Inv-loop μ-loop
-same-length c = c .before .before .before .before .before .before .before .before .before .before .before .before .loop .inv .2 .wide ∙ sym (ap length (c .before .before .before .before .before .before .before .before .before .before .before .before .before .before .before .before .pre .3) ∙ length-replicate {A = ℕ} 512 0)
+same-length c = c .before .before .before .before .before .before .before .before .before .before .before .loop .inv .2 .wide ∙ sym (ap length (c .before .before .before .before .before .before .before .before .before .before .before .before .before .before .before .pre .3) ∙ length-replicate {A = ℕ} 512 0)
 
 same-length-2 : tie.Need-same-length-2 Inv-loop μ-loop
 same-length-2 c = search needs
 
 returns : tie.Need-returns Inv-loop μ-loop
 returns c =
-    let a = c .before .before .before .before .before .before .before .before .before .before .before .before .before .before .before .before .args in
-    let l = c .before .before .before .before .before .before .before .before .before .before .before .before .loop in
+    let a = c .before .before .before .before .before .before .before .before .before .before .before .before .before .before .before .args in
+    let l = c .before .before .before .before .before .before .before .before .before .before .before .loop in
     let f = c .before .before .before .before .before .fingerprint in
-    let held = c .before .before .before .before .before .before .before .before .before .before .key-at in
-    let more = c .before .before .before .before .before .before .before .before .before .before .before .loop-test .taken in
-    let fresh = c .before .before .differs .ensures ∙ ap (λ (x : ℕ). every (λ other. not (eqb other x)) (keysOf (ridesFrom (a .region .now) 0 (l .k)))) (held .ensures) in (
+    let held = c .before .before .before .before .before .before .before .before .before .key-at in
+    let more = c .before .before .before .before .before .before .before .before .before .before .loop-test .taken in
+    let found = subst (λ (x : ℕ). SoughtAt (a .region .now) x (l .k) (c .before .before .seek .result)) (held .ensures) (c .before .before .seek .ensures) in (
       c .unsound .ensures ∙ sym (and-none (allBelow (slotUsed (a .region .now)) (a .count) && every (keeps (a .first) (a .bucket) (a .level)) (keysOf (ridesFrom (a .region .now) 0 (a .count)))) _
-          (sym (chain-met (a .region .now) (a .count) (l .k) (l .latest) (l .before) (l .inv .2) more (omega arith) (c .before .before .differs .result) fresh (not-true _ (c .before .if1 .taken))))),
+          (sym (chain-met (a .region .now) (a .count) (l .k) (l .latest) (l .before) (l .inv .2) more (omega arith) false (sought-stands (a .region .now) (keyAt (a .region .now) (l .k)) (l .k) _ found (c .before .if1 .taken)) refl))),
       λ e. absurd (false≢true (sym (c .unsound .ensures) ∙ e)),
     )
 
@@ -111,18 +107,44 @@ loop-less c = search needs
 
 loop-again : tie.Need-loop-again Inv-loop μ-loop
 loop-again c =
-    let a = c .before .before .before .before .before .before .before .before .before .before .before .before .before .before .before .args in
-    let l = c .before .before .before .before .before .before .before .before .before .before .before .loop in
+    let a = c .before .before .before .before .before .before .before .before .before .before .before .before .before .before .args in
+    let l = c .before .before .before .before .before .before .before .before .before .before .loop in
     let f = c .before .before .before .before .fingerprint in
-    let held = c .before .before .before .before .before .before .before .before .before .key-at in
-    let more = c .before .before .before .before .before .before .before .before .before .before .loop-test .taken in
-    let fresh = c .before .differs .ensures ∙ ap (λ (x : ℕ). every (λ other. not (eqb other x)) (keysOf (ridesFrom (a .region .now) 0 (l .k)))) (held .ensures) in (
+    let held = c .before .before .before .before .before .before .before .before .key-at in
+    let more = c .before .before .before .before .before .before .before .before .before .loop-test .taken in
+    let found = subst (λ (x : ℕ). SoughtAt (a .region .now) x (l .k) (c .before .seek .result)) (held .ensures) (c .before .seek .ensures) in (
       refl,
-      slots-more (a .first) (a .bucket) (a .level) (a .region .now) (a .count) (l .k) (l .used) (l .belong) (c .before .before .before .before .before .before .before .has-mark .result) (held .result) (c .before .before .before .before .before .before .hash .result)
-          (l .inv .1) more (held .ensures) (c .before .before .before .before .before .before .before .has-mark .ensures) (c .before .before .before .before .before .before .hash .ensures .0),
-      chain-more (a .region .now) (a .count) (l .k) (l .latest) (l .before) (l .inv .2) more (omega arith) (c .before .differs .result) fresh (not-false _ (c .if1 .left)) (f .result) _ (f .ensures .0 ∙ ap fingerprint (held .ensures)) (f .ensures .1) refl,
-      place-more (a .region .now) (a .key) (a .count) (l .k) (l .place) (c .before .before .before .before .before .found-at .result) (l .inv .3) (c .before .before .before .before .before .found-at .ensures ∙ ap (λ (x : ℕ). cond (eqb x (a .key)) (l .k) (l .place)) (held .ensures)),
+      slots-more (a .first) (a .bucket) (a .level) (a .region .now) (a .count) (l .k) (l .used) (l .belong) (c .before .before .before .before .before .before .has-mark .result) (held .result) (c .before .before .before .before .before .hash .result)
+          (l .inv .1) more (held .ensures) (c .before .before .before .before .before .before .has-mark .ensures) (c .before .before .before .before .before .hash .ensures .0),
+      chain-more (a .region .now) (a .count) (l .k) (l .latest) (l .before) (l .inv .2) more (omega arith) true (sought-fresh (a .region .now) (keyAt (a .region .now) (l .k)) (l .k) _ found (c .if1 .left)) refl (f .result) _ (f .ensures .0 ∙ ap fingerprint (held .ensures)) (f .ensures .1) refl,
     )
+
+fingerprint-requires-2 : tie.Need-fingerprint-requires-2 Inv-loop μ-loop
+fingerprint-requires-2 c κs = search needs
+
+slice-read-last : tie.Need-slice-read-last Inv-loop μ-loop
+slice-read-last c = search needs
+
+cast-seek-2 : tie.Need-cast-seek-2 Inv-loop μ-loop
+cast-seek-2 c =
+    let a = c .before .before .before .before .before .before .before .before .args in
+    let l = c .before .before .before .before .loop in
+    let f = c .before .before .fingerprint2 in
+    let whole = chain-whole (a .region .now) (a .count) (l .k) (l .latest) (l .before) (l .inv .2) (c .before .before .before .loop-test .left) in
+    let start = chain-start (a .region .now) (a .count) (a .count) (l .latest) (l .before) whole (f .result) (a .key) (f .ensures .0) (f .ensures .1) in
+    omega (arith, start .1)
+
+seek-requires-2 : tie.Need-seek-requires-2 Inv-loop μ-loop
+seek-requires-2 c κs =
+    let a = c .before .before .before .before .before .before .before .before .args in
+    let l = c .before .before .before .before .loop in
+    let f = c .before .before .fingerprint2 in
+    let whole = chain-whole (a .region .now) (a .count) (l .k) (l .latest) (l .before) (l .inv .2) (c .before .before .before .loop-test .left) in
+    let start = chain-start (a .region .now) (a .count) (a .count) (l .latest) (l .before) whole (f .result) (a .key) (f .ensures .0) (f .ensures .1) in
+    (search needs, search needs, whole .chained, start .0)
+
+slot-before-requires : tie.Need-slot-before-requires Inv-loop μ-loop
+slot-before-requires c κs = search needs
 
 same-length-3 : tie.Need-same-length-3 Inv-loop μ-loop
 same-length-3 c = search needs
@@ -132,11 +154,11 @@ same-length-4 c = search needs
 
 returns-2 : tie.Need-returns-2 Inv-loop μ-loop
 returns-2 c =
-    let a = c .before .before .before .before .before .args in
-    let l = c .before .loop in
-    let single = chain-done (a .region .now) (a .count) (l .k) (l .latest) (l .before) (l .inv .2) (c .loop-test .left) in (
-      slots-done (keeps (a .first) (a .bucket) (a .level)) (a .region .now) (a .count) (l .k) (l .used) (l .belong) (l .inv .1) (c .loop-test .left) _ single,
-      λ e. place-done (a .region .now) (a .key) (a .count) (l .place) (place-whole (a .region .now) (a .key) (a .count) (l .k) (l .place) (l .inv .1 .within) (c .loop-test .left) (l .inv .3)) single,
+    let a = c .before .before .before .before .before .before .before .before .before .before .args in
+    let l = c .before .before .before .before .before .before .loop in
+    let single = chain-done (a .region .now) (a .count) (l .k) (l .latest) (l .before) (l .inv .2) (c .before .before .before .before .before .loop-test .left) in (
+      slots-done (keeps (a .first) (a .bucket) (a .level)) (a .region .now) (a .count) (l .k) (l .used) (l .belong) (l .inv .1) (c .before .before .before .before .before .loop-test .left) _ single,
+      λ e. place-done (a .region .now) (a .key) (a .count) (c .slot-before .result) (place-sought (a .region .now) (a .key) (a .count) (c .before .seek2 .result) (c .slot-before .result) (c .before .seek2 .ensures) (c .slot-before .ensures)) single,
     )
 
 pub slots-chained-spec : {M : Type 1} → statement M
@@ -151,11 +173,10 @@ slots-chained-spec =
     add-has-mark
     has-mark-requires
     hash-requires
-    found-at-requires
     fingerprint-requires
     slice-read-next
-    cast-differs
-    differs-requires
+    cast-seek
+    seek-requires
     unsound-requires
     same-length
     same-length-2
@@ -167,6 +188,11 @@ slots-chained-spec =
     add-k
     loop-less
     loop-again
+    fingerprint-requires-2
+    slice-read-last
+    cast-seek-2
+    seek-requires-2
+    slot-before-requires
     same-length-3
     same-length-4
     returns-2)

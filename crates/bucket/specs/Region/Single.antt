@@ -95,6 +95,12 @@ latest region mark (suc k) = go (latest region mark k)
             equal : (i : ℕ) → i < suc k → k ≤ i → k ≡ i
             equal i high l = omega arith
 
+-- One more than a slot that holds a key, of the first ones, and 0 if none does.
+pub record SoughtAt (region : List ℕ) (key count found : ℕ) : Type 0 where
+  pub within : found ≤ count
+  pub none : found ≡ 0 → (i : ℕ) → i < count → keyAt region i ≡ key → ⊥
+  pub here : (found ≡ 0 → ⊥) → keyAt region (found - 1) ≡ key
+
 -- ---- a key sought along its chain: the slots from `next` on do not hold it
 
 pub record Sought (region : List ℕ) (key count next : ℕ) : Type 0 where
@@ -136,12 +142,18 @@ module _ (region : List ℕ) (key count next : ℕ) (so : Sought region key coun
       at-last : (i : ℕ) → i < count → keyAt region i ≡ key → next - 1 ≤ i → ⊥
       at-last i high e h = ⊎-elim (λ (f : i ≡ next - 1). other (ap (keyAt region) (sym f) ∙ e)) (λ f. so .past i (omega (arith, f, h, back)) high e) (same i (next - 1))
 
-  pub sought-met : keyAt region (next - 1) ≡ key → false ≡ every (λ other. not (eqb other key)) (keysOf (ridesFrom region 0 count))
-  sought-met e = sym (stands region key 0 count (next - 1) (omega arith) (omega (arith, so .within, back)) e)
+  pub sought-met : keyAt region (next - 1) ≡ key → SoughtAt region key count next
+  sought-met e = record { within = so .within; none = λ z. absurd (some z); here = λ s. e }
 
-pub sought-done : (region : List ℕ) (key count next : ℕ) → Sought region key count next → next ≡ 0 → true ≡ every (λ other. not (eqb other key)) (keysOf (ridesFrom region 0 count))
-sought-done region key count next so none =
-    sym (fresh-from region key 0 count (λ i low high. ne-eqb (keyAt region i) key (λ e. so .past i (omega arith) (omega arith) e)))
+pub sought-done : (region : List ℕ) (key count next : ℕ) → Sought region key count next → next ≡ 0 → SoughtAt region key count next
+sought-done region key count next so none = record { within = so .within; none = λ z i high e. so .past i (omega arith) high e; here = λ some. absurd (some none) }
+
+-- so it stands among the first slots, or it is fresh
+pub sought-stands : (region : List ℕ) (key count found : ℕ) → SoughtAt region key count found → (found ≡ 0 → ⊥) → false ≡ every (λ other. not (eqb other key)) (keysOf (ridesFrom region 0 count))
+sought-stands region key count found so some = sym (stands region key 0 count (found - 1) (omega arith) (omega (arith, so .within, some)) (so .here some))
+
+pub sought-fresh : (region : List ℕ) (key count found : ℕ) → SoughtAt region key count found → found ≡ 0 → true ≡ every (λ other. not (eqb other key)) (keysOf (ridesFrom region 0 count))
+sought-fresh region key count found so none = sym (fresh-from region key 0 count (λ i low high. ne-eqb (keyAt region i) key (so .none none i (omega arith))))
 
 -- ---- one key more: fresh or met
 
@@ -234,6 +246,12 @@ module _ (region : List ℕ) (count k : ℕ) (latests before : List ℕ) (so : C
           linked : getD (set before k next) k 0 ≡ latestOf region (fingerprint (keyAt region k)) k
           linked = getD-set-same before k next 0 (omega (arith, so .chained .long)) ∙ en ∙ so .marks mark small ∙ ap (λ (m : ℕ). latestOf region m k) em
 
+pub chain-whole : (region : List ℕ) (count k : ℕ) (latests before : List ℕ) → Chaining region count k latests before → count ≤ k → Chaining region count count latests before
+chain-whole region count k latests before so end = subst (λ (n : ℕ). Chaining region count n latests before) all so
+  where
+    all : k ≡ count
+    all = omega (arith, so .within)
+
 pub chain-done : (region : List ℕ) (count k : ℕ) (latests before : List ℕ) → Chaining region count k latests before → count ≤ k
     → true ≡ distinct (keysOf (ridesFrom region 0 count))
 chain-done region count k latests before so end = single-done region count k (so .within) end (so .single)
@@ -279,6 +297,13 @@ place-whole region key count k place within end so = subst (λ (n : ℕ). Placed
   where
     all : k ≡ count
     all = omega arith
+
+-- the slot that a search along the chains gives
+pub place-sought : (region : List ℕ) (key count found place : ℕ) → SoughtAt region key count found → place ≡ cond (eqb found 0) count (found - 1) → Placed region key count count place
+place-sought region key count found place so e = ⊎-elim
+    (λ z. record { at = inl (e ∙ rw (eq-eqb found 0 z), so .none z) })
+    (λ z. let is : place ≡ found - 1 = e ∙ rw (ne-eqb found 0 z) in record { at = inr (omega (arith, is, so .within, z), ap (keyAt region) is ∙ so .here z) })
+    (same found 0)
 
 pub place-done : (region : List ℕ) (key count place : ℕ) → Placed region key count count place → true ≡ distinct (keysOf (ridesFrom region 0 count))
     → place ≡ firstFrom (λ i. eqb (keyAt region i) key) count 0

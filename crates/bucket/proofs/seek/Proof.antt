@@ -1,10 +1,10 @@
--- `bucket::differs`: the slots from `next` on do not hold the key; the chain leads down to the latest before that could.
+-- `bucket::seek`: the slots from `next` on do not hold the key; the chain leads down to the latest before that could.
 use mathlib.Core.Path.{sym, _∙_}
 use native.Mathlib.Omega.{arith}
 use borrow.Author.Needs.{needs}
 use Rattle.bucket.specs.Region.Single.{Sought, sought-start, sought-next, sought-met, sought-done}
-use Rattle.bucket.proofs.differs.Statement.{statement}
-use Rattle.bucket.proofs.differs.Tie as tie
+use Rattle.bucket.proofs.seek.Statement.{statement}
+use Rattle.bucket.proofs.seek.Tie as tie
 
 abbrev Inv-loop : tie.InvT-loop
 Inv-loop region before count latest key next₀ next = Sought region key count next
@@ -62,8 +62,8 @@ returns-2 c =
     let l = c .before .loop in
     sought-done (a .region .now) (a .key) (a .count) (l .next) (l .inv) (c .loop-test .left)
 
-pub differs-spec : {M : Type 1} → statement M
-differs-spec =
+pub seek-spec : {M : Type 1} → statement M
+seek-spec =
     tie.close
     (tie.spec
     Inv-loop
