@@ -18,26 +18,13 @@ use Rattle.bucket.specs.Region.{keyAt, ridesFrom, keysOf, every, distinc
 use Rattle.bucket.specs.Region.Rides.{distinct-append}
 use Rattle.bucket.specs.Region.Judge.{keys-more, fresh-from, stands, distinct-later}
 
--- A number below 512 of a key: the upper nine of the lower 32 bits of a product of its ride's 32 bits, to which its lift is added.
+-- A number below 512 of a key: its ride and its lift added in 32 bits, and of a product of that the upper nine of the lower 32 bits.
 pub fingerprint : ℕ → ℕ
-fingerprint key = (key % 4294967296 * 2654435769 + key / 4294967296 * 1500000001) / 8388608 % 512
+fingerprint key = (key % 4294967296 + key / 4294967296) % 4294967296 * 2654435769 / 8388608 % 512
 
-pub fingerprint-is : (key : ℕ) → (key % 4294967296 * 2654435769 + key / 4294967296 * 1500000001) / 8388608 % 512 ≡ fingerprint key
+pub fingerprint-is : (key : ℕ) → (key % 4294967296 + key / 4294967296) % 4294967296 * 2654435769 / 8388608 % 512 ≡ fingerprint key
 unfolding fingerprint
 fingerprint-is key = refl
-
--- neither product nor their sum leaves 64 bits
-ride-part : (ride : ℕ) → ride < 4294967296 → ride * 2654435769 ≤ 11400714814533174855
-ride-part ride h = omega arith
-
-lift-part : (lift : ℕ) → lift < 4294967296 → lift * 1500000001 ≤ 6442450946794967295
-lift-part lift h = omega arith
-
-both-parts : (ride lift : ℕ) → ride ≤ 11400714814533174855 → lift ≤ 6442450946794967295 → ride + lift < 18446744073709551616
-both-parts ride lift h l = omega arith
-
-pub fingerprint-fits : (key : ℕ) → key < 18446744073709551616 → key % 4294967296 * 2654435769 + key / 4294967296 * 1500000001 < 18446744073709551616
-fingerprint-fits key h = both-parts _ _ (ride-part (key % 4294967296) (omega arith)) (lift-part (key / 4294967296) (omega arith))
 
 -- One more than the latest of the first k slots whose key has a fingerprint, and 0 if none has.
 pub latestOf : List ℕ → ℕ → ℕ → ℕ

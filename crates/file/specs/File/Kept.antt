@@ -8,7 +8,7 @@ use mathlib.Core.Logic.{by-cases}
 use native.Mathlib.Decide.{ℕ-discrete, decLt}
 use native.Mathlib.Omega.{arith}
 use borrow.Author.Tests.{lt-ltb}
-use lib.Dec.{eqb, ltb}
+use lib.Dec.{ltb}
 use lib.ListN.{length, length-append}
 use Rattle.address.specs.Limits.{firstBuckets}
 use Rattle.address.specs.declared.Image.{Image}
@@ -16,17 +16,16 @@ use Rattle.address.specs.Rules.{Formed, address, level, buckets, keeps, newborn
 use Rattle.address.specs.Rules.Hash.{span-pos}
 use Rattle.address.specs.Rules.Grow.{newborn-next, grown-formed, grown-buckets, level-old, level-newborn, level-other}
 use Rattle.layout.specs.Bytes.{Bytes, allBelow, allZero}
-use Rattle.layout.specs.Bytes.Edit.{part-bytes}
 use Rattle.layout.specs.Bytes.Tests.{and-left, and-right, and-both, all-at, all-of}
-use Rattle.bucket.specs.Region.{Ride, Whole, slotAt, countOf, ridesOf, slotOf, bucketSound, encode, kept}
+use Rattle.bucket.specs.Region.{Ride, Whole, slotAt, countOf, ridesOf, keysOf, distinct, slotOf, bucketSound, encode, kept}
 use Rattle.bucket.specs.Region.Rides.{AllWhole, whole-append, kept-whole, kept-lengths}
-use Rattle.bucket.specs.Region.Sound.{Parts, sound-count, sound-whole, rides-encode}
+use Rattle.bucket.specs.Region.Sound.{rides-encode}
 use Rattle.bucket.specs.Region.Encode.{length-encode}
 use Rattle.bucket.specs.Region.Keep.{bucket-placed, bucket-divided, bucket-alike}
-use Rattle.file.specs.File.{mostOf, slotsOf, stateOf, bucketsOf, headerSound, startOf, regionOf, bucketSoundIn, regionSound, fileSound, withRegion, withRide, withState, staying, divided}
+use Rattle.file.specs.File.{mostOf, slotsOf, stateOf, bucketsOf, headerSound, regionOf, bucketSoundIn, regionSound, fileSound, withRegion, withRide, withState, staying, divided}
 use Rattle.file.specs.File.Judge.{Ranges, header-ranges, buckets-of, state-back, state-small}
-use Rattle.file.specs.File.Region.{region-is, region-fits, length-region, region-bucket, region-past}
-use Rattle.file.specs.File.Write.{with-slots, with-state, with-sound, with-most, with-here, with-other, bucket-shown, state-slots, state-most, state-back-again, state-header, state-region}
+use Rattle.file.specs.File.Region.{region-bucket, region-past}
+use Rattle.file.specs.File.Write.{Shown, shown, with-slots, with-state, with-sound, with-most, with-here, with-other, state-slots, state-most, state-back-again, state-header, state-region}
 use Rattle.file.specs.File.Split.{moves}
 
 -- a sound file's header and regions
@@ -63,28 +62,22 @@ module _ (file : List ℕ) (bytes : Bytes file) (sound : fileSound file ≡ true
   seen : Ranges file
   seen = header-ranges file (sound-header file sound)
 
+  bucket : Shown file a
+  bucket = shown file seen bytes a exists (sound-bucket file sound a exists)
+
   there : a < mostOf file
-  there = omega (arith, exists, seen .few)
-
-  region-bytes : Bytes (regionOf file a)
-  region-bytes = rw (region-is file a) (part-bytes (startOf (slotsOf file) a) (slotAt (slotsOf file)) file (region-fits file seen a there) bytes)
-
-  region-long : length (regionOf file a) ≡ slotAt (slotsOf file)
-  region-long = length-region file a (region-fits file seen a there)
-
-  shown : Parts (slotsOf file) (level firstBuckets (stateOf file) a) (λ key. eqb (address firstBuckets (stateOf file) key) a) (regionOf file a)
-  shown = bucket-shown file a (sound-bucket file sound a exists)
+  there = bucket .there
 
   rides : List Ride
   rides = ridesOf (regionOf file a) ++ (ride ∷ [])
 
   all : AllWhole rides
   unfolding rides
-  all = whole-append (ridesOf (regionOf file a)) ride (sound-whole _ _ _ (regionOf file a) region-bytes region-long shown) whole
+  all = whole-append (ridesOf (regionOf file a)) ride (bucket .whole) whole
 
   few : length rides ≤ slotsOf file
   unfolding rides
-  few = omega (arith, length-append (ridesOf (regionOf file a)) (ride ∷ []), sound-count _ _ _ (regionOf file a) region-bytes region-long shown)
+  few = omega (arith, length-append (ridesOf (regionOf file a)) (ride ∷ []), bucket .count)
 
   region : List ℕ
   region = encode (slotsOf file) (level firstBuckets (stateOf file) a) rides
@@ -95,7 +88,7 @@ module _ (file : List ℕ) (bytes : Bytes file) (sound : fileSound file ≡ true
 
   here-sound : bucketSound firstBuckets (stateOf file) (slotsOf file) a region ≡ true
   unfolding region rides bucketSoundIn
-  here-sound = bucket-placed firstBuckets (stateOf file) (slotsOf file) a (regionOf file a) region-bytes region-long (omega (arith, seen .figured .few-slots))
+  here-sound = bucket-placed firstBuckets (stateOf file) (slotsOf file) a (regionOf file a) (bucket .bytes) (bucket .long) (omega (arith, seen .figured .few-slots))
       (sound-bucket file sound a exists) ride whole own fresh room
 
   within-state : a < buckets firstBuckets (stateOf file)
@@ -154,26 +147,20 @@ module _ (file : List ℕ) (bytes : Bytes file) (sound : fileSound file ≡ true
   source : List ℕ
   source = regionOf file (stateOf file .pointer)
 
-  source-fits : startOf (slotsOf file) (stateOf file .pointer) + slotAt (slotsOf file) ≤ length file
-  source-fits = region-fits file ranges (stateOf file .pointer) (omega (arith, old-there))
-
-  source-bytes : Bytes source
-  unfolding source
-  source-bytes = rw (region-is file (stateOf file .pointer)) (part-bytes (startOf (slotsOf file) (stateOf file .pointer)) (slotAt (slotsOf file)) file source-fits bytes)
-
-  source-long : length source ≡ slotAt (slotsOf file)
-  unfolding source
-  source-long = length-region file (stateOf file .pointer) source-fits
-
-  source-shown : Parts (slotsOf file) (level firstBuckets (stateOf file) (stateOf file .pointer)) (λ key. eqb (address firstBuckets (stateOf file) key) (stateOf file .pointer)) source
-  unfolding source
-  source-shown = bucket-shown file (stateOf file .pointer) (sound-bucket file sound (stateOf file .pointer) old-there)
+  old : Shown file (stateOf file .pointer)
+  old = shown file ranges bytes (stateOf file .pointer) old-there (sound-bucket file sound (stateOf file .pointer) old-there)
 
   source-whole : AllWhole (ridesOf source)
-  source-whole = sound-whole _ _ _ source source-bytes source-long source-shown
+  unfolding source
+  source-whole = old .whole
 
   source-few : length (ridesOf source) ≤ slotsOf file
-  source-few = omega (arith, sound-count _ _ _ source source-bytes source-long source-shown, source-shown .few)
+  unfolding source
+  source-few = omega (arith, old .count, old .parts .few)
+
+  source-single : distinct (keysOf (ridesOf source)) ≡ true
+  unfolding source
+  source-single = old .parts .single
 
   half : ℕ → List ℕ
   half a = encode (slotsOf file) (suc (stateOf file .level)) (kept (keeps firstBuckets a (suc (stateOf file .level))) (ridesOf source))
@@ -188,7 +175,7 @@ module _ (file : List ℕ) (bytes : Bytes file) (sound : fileSound file ≡ true
       → bucketSound firstBuckets (grown firstBuckets (stateOf file)) (slotsOf file) a (half a) ≡ true
   unfolding half
   half-sound a l e = bucket-divided firstBuckets (omega arith) (grown firstBuckets (stateOf file)) next-formed (slotsOf file) a (suc (stateOf file .level))
-      (omega (arith, next-buckets)) e (ridesOf source) source-whole source-few few-slots (source-shown .single)
+      (omega (arith, next-buckets)) e (ridesOf source) source-whole source-few few-slots source-single
 
   -- the file with the first half, with both, and with the next state
   one : List ℕ
@@ -262,7 +249,7 @@ module _ (file : List ℕ) (bytes : Bytes file) (sound : fileSound file ≡ true
   three-is : divided file ≡ three
   unfolding divided three two one half source staying
   three-is = ap (λ (l : List Ride). withState (withRegion one (newborn firstBuckets (stateOf file)) (encode (slotsOf file) (suc (stateOf file .level)) l)) (grown firstBuckets (stateOf file)))
-      (sym (moves (stateOf file) (ranges .formed) (ridesOf source) (source-shown .belong)))
+      (sym (moves (stateOf file) (ranges .formed) (ridesOf source) (old .parts .belong)))
 
   three-state : stateOf three ≡ grown firstBuckets (stateOf file)
   unfolding three

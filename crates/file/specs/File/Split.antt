@@ -1,6 +1,6 @@
 -- A split: the rides that move are just those that belong to the new bucket, and the writes in turn are the divided file.
 use Prim.Native.Nat.{ℕ, suc, _+_, _≤_, _<_}
-use mathlib.Core.Path.{_≡_, refl, sym, ap, ap₂, _∙_}
+use mathlib.Core.Path.{_≡_, refl, sym, ap, ap₂, subst, _∙_}
 use mathlib.Core.Bool.{Bool, true, false, not}
 use mathlib.Core.List.{List}
 use mathlib.Core.Logic.{⊎-elim}
@@ -16,18 +16,16 @@ use Rattle.address.specs.Rules.Hash.{span-pos}
 use Rattle.address.specs.Rules.Cases.{keeps-yes, keeps-no, newborn-is}
 use Rattle.address.specs.Rules.Grow.{divided-cases, newborn-next, grown-formed, grown-buckets}
 use Rattle.layout.specs.Bytes.{Bytes, allZero, edit, part}
-use Rattle.layout.specs.Bytes.Edit.{part-bytes}
 use Rattle.bucket.specs.Region.{Ride, slotAt, countOf, ridesOf, keysOf, every, encode, kept}
 use Rattle.bucket.specs.Region.Divide.{Halves}
-use Rattle.bucket.specs.Region.Sound.{Parts, sound-whole, sound-count}
 use Rattle.bucket.specs.Region.Rides.{kept-whole, kept-lengths}
 use Rattle.bucket.specs.Region.Encode.{length-encode}
 use Rattle.bucket.specs.Region.Keep.{kept-agree}
 use Rattle.file.specs.declared.Header.{Header}
 use Rattle.file.specs.File.{mostOf, slotsOf, stateOf, bucketsOf, headerSound, startOf, regionOf, bucketSoundIn, withRegion, withState, staying, divided, Splitted, split}
 use Rattle.file.specs.File.Judge.{Known, buckets-of, state-small}
-use Rattle.file.specs.File.Region.{region-is, region-apart, region-fits, length-region}
-use Rattle.file.specs.File.Write.{with-slots, bucket-shown}
+use Rattle.file.specs.File.Region.{region-is, region-apart, region-fits}
+use Rattle.file.specs.File.Write.{with-slots, Shown, shown}
 
 -- of the keys of bucket n, those whose h_{i+1} is not n are those that belong to the new bucket
 pub moves : (s : Image) → Formed firstBuckets s → (rides : List Ride) → every (λ key. eqb (address firstBuckets s key) (s .pointer)) (keysOf rides) ≡ true
@@ -96,17 +94,17 @@ module _ (file : List ℕ) (bytes : Bytes file) (header : Header) (seen : Known 
   source : part from (slotAt (header .slots)) file ≡ regionOf file old
   source = ap₂ (λ (p S : ℕ). part p (slotAt S) file) from-is (seen .slots) ∙ sym (region-is file old)
 
-  shown : Parts (slotsOf file) (level firstBuckets (stateOf file) old) (λ key. eqb (address firstBuckets (stateOf file) key) old) (regionOf file old)
+  bucket : Shown file old
   unfolding old
-  shown = bucket-shown file old sound
+  bucket = shown file (seen .ranges) bytes old old-in sound
 
   pub split-halves : Halves file (header .slots) from to (countOf (part from (slotAt (header .slots)) file))
   split-halves = record {
     bytes = bytes;
     apart = omega (arith, from-is, to-is, seen .slots, region-apart (slotsOf file) old new (omega (arith, old-in, new-is)));
     fits = omega (arith, to-is, seen .slots, region-fits file (seen .ranges) new (omega (arith, new-is)));
-    few = omega (arith, ap countOf source, shown .few, seen .slots);
-    used = rw source (shown .used);
+    few = omega (arith, ap countOf source, bucket .parts .few, seen .slots);
+    used = rw source (bucket .parts .used);
   }
 
   pointer : header .state .pointer ≡ stateOf file .pointer
@@ -122,10 +120,9 @@ module _ (file : List ℕ) (bytes : Bytes file) (header : Header) (seen : Known 
       (kept (keeps firstBuckets (stateOf file .pointer) (suc (stateOf file .level))) (ridesOf (regionOf file (stateOf file .pointer))))
 
   staying-long : length staying-bytes ≡ slotAt (slotsOf file)
-  unfolding staying-bytes old
-  staying-long = length-encode (slotsOf file) (suc (stateOf file .level)) _
-      (kept-whole test (ridesOf region) (sound-whole _ _ _ region region-bytes region-long parts))
-      (omega (arith, kept-lengths test (ridesOf region), sound-count _ _ _ region region-bytes region-long parts, parts .few))
+  unfolding staying-bytes
+  staying-long = length-encode (slotsOf file) (suc (stateOf file .level)) _ (kept-whole test (ridesOf region) (there .whole))
+      (omega (arith, kept-lengths test (ridesOf region), there .count, there .parts .few))
     where
       region : List ℕ
       region = regionOf file (stateOf file .pointer)
@@ -133,17 +130,8 @@ module _ (file : List ℕ) (bytes : Bytes file) (header : Header) (seen : Known 
       test : ℕ → Bool
       test = keeps firstBuckets (stateOf file .pointer) (suc (stateOf file .level))
 
-      here : stateOf file .pointer < mostOf file
-      here = omega (arith, old-in, pointer)
-
-      region-bytes : Bytes region
-      region-bytes = rw (region-is file (stateOf file .pointer)) (part-bytes _ _ file (region-fits file (seen .ranges) (stateOf file .pointer) here) bytes)
-
-      region-long : length region ≡ slotAt (slotsOf file)
-      region-long = length-region file (stateOf file .pointer) (region-fits file (seen .ranges) (stateOf file .pointer) here)
-
-      parts : Parts (slotsOf file) (level firstBuckets (stateOf file) (stateOf file .pointer)) (λ key. eqb (address firstBuckets (stateOf file) key) (stateOf file .pointer)) region
-      parts = bucket-shown file (stateOf file .pointer) (ap (bucketSoundIn file) (sym pointer) ∙ sound)
+      there : Shown file (stateOf file .pointer)
+      there = unfold old in (subst (Shown file) pointer bucket)
 
   from-there : from ≡ startOf (slotsOf file) (stateOf file .pointer)
   unfolding old

@@ -17,7 +17,8 @@ use Rattle.layout.specs.Bytes.Edit.{length-edit, edit-before, edit-in, edit-aft
 use Rattle.layout.specs.Bytes.Tests.{and-left, and-both}
 use Rattle.layout.specs.Bytes.Numbers.{le-same, le-back, length-leBytes}
 use Rattle.address.specs.Rules.{address, level}
-use Rattle.bucket.specs.Region.{Ride, Whole, slotAt, countOf, ridesOf, slotBytes}
+use Rattle.bucket.specs.Region.{Ride, Whole, slotAt, countOf, ridesOf, slotBytes, encode}
+use Rattle.bucket.specs.Region.Rides.{AllWhole}
 use Rattle.bucket.specs.Region.Sound.{Parts, bucket-parts, sound-count, sound-whole, sound-encode}
 use Rattle.bucket.specs.Region.Encode.{encode-more}
 use Rattle.file.specs.declared.Header.{Header}
@@ -219,27 +220,52 @@ pub bucket-shown : (file : List ℕ) (a : ℕ) → bucketSoundIn file a ≡ true
 unfolding bucketSoundIn
 bucket-shown file a h = bucket-parts firstBuckets (stateOf file) (slotsOf file) a (regionOf file a) h
 
+-- all that is known of a sound bucket's region: it is the encoding of its level and its rides
+pub record Shown (file : List ℕ) (a : ℕ) : Type 0 where
+  pub there : a < mostOf file
+  pub bytes : Bytes (regionOf file a)
+  pub long : length (regionOf file a) ≡ slotAt (slotsOf file)
+  pub parts : Parts (slotsOf file) (level firstBuckets (stateOf file) a) (λ key. eqb (address firstBuckets (stateOf file) key) a) (regionOf file a)
+  pub whole : AllWhole (ridesOf (regionOf file a))
+  pub count : length (ridesOf (regionOf file a)) ≡ countOf (regionOf file a)
+  pub again : regionOf file a ≡ encode (slotsOf file) (level firstBuckets (stateOf file) a) (ridesOf (regionOf file a))
+
+pub shown : (file : List ℕ) → Ranges file → Bytes file → (a : ℕ) → a < bucketsOf file → bucketSoundIn file a ≡ true → Shown file a
+shown file seen bytes a exists sound = record {
+  there = there;
+  bytes = each;
+  long = long;
+  parts = parts;
+  whole = sound-whole _ _ _ (regionOf file a) each long parts;
+  count = sound-count _ _ _ (regionOf file a) each long parts;
+  again = sound-encode _ _ _ (regionOf file a) each long parts;
+}
+  where
+    there : a < mostOf file
+    there = omega (arith, exists, seen .few)
+
+    each : Bytes (regionOf file a)
+    each = rw (region-is file a) (part-bytes (startOf (slotsOf file) a) (slotAt (slotsOf file)) file (region-fits file seen a there) bytes)
+
+    long : length (regionOf file a) ≡ slotAt (slotsOf file)
+    long = length-region file a (region-fits file seen a there)
+
+    parts : Parts (slotsOf file) (level firstBuckets (stateOf file) a) (λ key. eqb (address firstBuckets (stateOf file) key) a) (regionOf file a)
+    parts = bucket-shown file a sound
+
 -- ---- a ride, placed
 
-module _ (file : List ℕ) (header : Header) (seen : Known file header) (bytes : Bytes file) (a : ℕ) (exists : a < bucketsOf file) (sound : bucketSoundIn file a ≡ true)
-    (ride : Ride) (whole : Whole ride) (count : ℕ) (counted : count ≡ countOf (regionOf file a)) (room : count < header .slots) where
-  region-bytes : Bytes (regionOf file a)
-  region-bytes = rw (region-is file a) (part-bytes (startOf (slotsOf file) a) (slotAt (slotsOf file)) file (region-fits file (seen .ranges) a (omega (arith, seen .ranges .few))) bytes)
+pub ride-placed : (file : List ℕ) (header : Header) → Known file header → Bytes file → (a : ℕ) → a < bucketsOf file → bucketSoundIn file a ≡ true
+    → (ride : Ride) → Whole ride → (count : ℕ) → count ≡ countOf (regionOf file a) → count < header .slots
+    → (region after : List ℕ) → region ≡ regionOf file a → after ≡ edit 4 (leBytes 2 (count + 1)) (edit (slotAt count) (slotBytes ride) region)
+    → withRegion file a after ≡ withRide file a ride
+unfolding withRide
+ride-placed file header seen bytes a exists sound ride whole count counted room region after er ea = ap (withRegion file a) (ea
+    ∙ ap₂ (λ (n : ℕ) (r : List ℕ). edit 4 (leBytes 2 (n + 1)) (edit (slotAt n) (slotBytes ride) r)) number (er ∙ bucket .again)
+    ∙ encode-more (slotsOf file) (level firstBuckets (stateOf file) a) (ridesOf (regionOf file a)) (bucket .whole) ride whole (omega (arith, number, seen .slots)))
+  where
+    bucket : Shown file a
+    bucket = shown file (seen .ranges) bytes a exists sound
 
-  region-long : length (regionOf file a) ≡ slotAt (slotsOf file)
-  region-long = length-region file a (region-fits file (seen .ranges) a (omega (arith, seen .ranges .few)))
-
-  shown : Parts (slotsOf file) (level firstBuckets (stateOf file) a) (λ key. eqb (address firstBuckets (stateOf file) key) a) (regionOf file a)
-  shown = bucket-shown file a sound
-
-  pub ride-placed : (region after : List ℕ) → region ≡ regionOf file a
-      → after ≡ edit 4 (leBytes 2 (count + 1)) (edit (slotAt count) (slotBytes ride) region)
-      → withRegion file a after ≡ withRide file a ride
-  unfolding withRide
-  ride-placed region after er ea = ap (withRegion file a) (ea
-      ∙ ap₂ (λ (n : ℕ) (r : List ℕ). edit 4 (leBytes 2 (n + 1)) (edit (slotAt n) (slotBytes ride) r)) number (er ∙ sound-encode _ _ _ (regionOf file a) region-bytes region-long shown)
-      ∙ encode-more (slotsOf file) (level firstBuckets (stateOf file) a) (ridesOf (regionOf file a)) (sound-whole _ _ _ (regionOf file a) region-bytes region-long shown) ride whole
-      (omega (arith, number, seen .slots)))
-    where
-      number : count ≡ length (ridesOf (regionOf file a))
-      number = counted ∙ sym (sound-count _ _ _ (regionOf file a) region-bytes region-long shown)
+    number : count ≡ length (ridesOf (regionOf file a))
+    number = counted ∙ sym (bucket .count)
