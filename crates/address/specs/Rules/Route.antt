@@ -57,10 +57,6 @@ pub last-one : (a : ℕ) → last a [] ≡ a
 unfolding last
 last-one a = refl
 
-pub last-more : (a b : ℕ) (rest : List ℕ) → last a (b ∷ rest) ≡ last b rest
-unfolding last
-last-more a b rest = refl
-
 module _ (N : ℕ) (file : Image) (C most a : ℕ) where
   pub route-kept : hash N (level N file a) C ≡ a → routeFrom N file C (suc most) a ≡ a ∷ []
   unfolding routeFrom following

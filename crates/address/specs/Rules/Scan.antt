@@ -9,7 +9,7 @@ use mathlib.Core.Logic.{_↔_, _⊎_, ⊎-elim}
 use native.Mathlib.Omega.{arith}
 use borrow.Author.Tests.{eq-eqb, ne-eqb}
 use lib.Dec.{eqb}
-use lib.ListN.{length, length-map, getD}
+use lib.ListN.{length, length-map}
 use Rattle.address.specs.Compare.{below, same}
 use Rattle.address.specs.declared.Image.{Image}
 use Rattle.address.specs.Rules.{Formed, NotAhead, span, buckets, hash, address, level, child, Message, message, numbers, opening, sends, answers, handled, scan, visits, greatest, lastRound, highest}
@@ -269,13 +269,6 @@ times-good N file base (m ∷ queue) g x past = omega (
   bit-no x (m .to) (omega (arith, g .0 .exists)),
 )
 
--- each good message is for a bucket that exists
-good-exists : (N : ℕ) (file : Image) (base : ℕ) (queue : List Message) → AllGood N file base queue → (k : ℕ) → k < length queue
-    → getD (map (λ m. m .to) queue) k 0 < buckets N file
-good-exists N file base [] g k h = absurd (omega arith)
-good-exists N file base (m ∷ queue) g zero h = g .0 .exists
-good-exists N file base (m ∷ queue) g (suc k) h = good-exists N file base queue (g .1) k (omega arith)
-
 -- the greatest of a list
 greatest-at : (f : ℕ → ℕ) (a c x : ℕ) → a ≤ x → x < a + c → f x ≤ greatest (map f (numbers a c))
 unfolding greatest numbers
@@ -375,12 +368,6 @@ module _ (N : ℕ) (positive : 0 < N) (file : Image) (formed : Formed N file)
   unfolding visits scan
   visits-length = length-map (scan N file image) (λ m. m .to)
       ∙ handled-length N positive file formed (image .level) (buckets N file) (opening N image) opening-good (omega (arith, opening-total)) ∙ opening-total
-
-  pub visits-exist : (k : ℕ) → k < buckets N file → getD (visits N file image) k 0 < buckets N file
-  unfolding visits scan
-  visits-exist k h = good-exists N file (image .level) (scan N file image)
-      (handled-good N positive file formed (image .level) (buckets N file) (opening N image) opening-good) k
-      (omega (arith, visits-length, length-map (scan N file image) (λ m. m .to)))
 
   -- the last round is at most the highest bucket level less i'
   pub rounds : lastRound N file image ≤ highest N file - image .level

@@ -253,21 +253,6 @@ pub part-front : (n : ℕ) (xs : List ℕ) → part 0 n xs ≡ take n xs
 unfolding part
 part-front n xs = refl
 
--- what is left of a list from a place up to an end, by its first element
-pub part-cons : (k e : ℕ) (xs : List ℕ) → k < e → e ≤ length xs → part k (e - k) xs ≡ getD xs k 0 ∷ part (k + 1) (e - (k + 1)) xs
-unfolding part
-part-cons k e xs h l = ap₂ take more (drop-cons xs k 0 (omega arith)) ∙ ap (λ (zs : List ℕ). getD xs k 0 ∷ take (e - (k + 1)) zs) (ap (λ (n : ℕ). drop n xs) (sym (add-one k)))
-  where
-    more : e - k ≡ suc (e - (k + 1))
-    more = omega arith
-
-pub part-end : (k e : ℕ) (xs : List ℕ) → e ≤ k → part k (e - k) xs ≡ []
-unfolding part
-part-end k e xs h = ap (λ (n : ℕ). take n (drop k xs)) none
-  where
-    none : e - k ≡ 0
-    none = omega arith
-
 -- a write over all of a list
 pub edit-all : (ys xs : List ℕ) → length ys ≡ length xs → edit 0 ys xs ≡ ys
 edit-all ys xs same = edit-is 0 ys xs ∙ ap (λ (l : List ℕ). ys ++ l) (ap (λ (n : ℕ). drop n xs) end ∙ drop-length xs) ∙ append-nil ys

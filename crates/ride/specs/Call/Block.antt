@@ -17,6 +17,15 @@ use Rattle.ride.specs.Call.{entry, block, noPayload, noted, forwardsIn}
 abbrev pub shown : ℕ → ℕ → ℕ → ℕ
 shown count k bucket = cond (ltb k count) bucket noBucket
 
+-- the bytes of a block, one by one
+abbrev pub blockBytes : ℕ → ℕ → ℕ → ℕ → ℕ → ℕ → List ℕ → List ℕ
+blockBytes r flag count x y z payload = r ∷ count ∷ x % 256 ∷ x / 256 % 256 ∷ y % 256 ∷ y / 256 % 256 ∷ z % 256 ∷ z / 256 % 256 ∷ flag ∷ 0 ∷ payload
+
+pub block-bytes : (r flag : ℕ) (way payload : List ℕ)
+    → block r way flag payload ≡ blockBytes r flag (length way) (getD way 0 noBucket) (getD way 1 noBucket) (getD way 2 noBucket) payload
+unfolding block entry
+block-bytes r flag way payload = rw (leBytes-two (getD way 0 noBucket), leBytes-two (getD way 1 noBucket), leBytes-two (getD way 2 noBucket))
+
 module _ (walk : Walk) where
   by-count : (P : List ℕ → ℕ → Type 0) → walk .count ≤ 3
       → P [] 0 → P (walk .first ∷ []) 1 → P (walk .first ∷ walk .second ∷ []) 2 → P (walk .first ∷ walk .second ∷ walk .third ∷ []) 3 → P (noted walk) (walk .count)
@@ -42,27 +51,25 @@ module _ (walk : Walk) where
   pub noted-third : walk .count ≤ 3 → getD (noted walk) 2 noBucket ≡ shown (walk .count) 2 (walk .third)
   noted-third few = by-count (λ l n. getD l 2 noBucket ≡ shown n 2 (walk .third)) few refl refl refl refl
 
-  -- the 24 bytes of a block without a payload
+  -- a block without a payload, from what a walk has noted
   pub block-source : (r flag x y z : ℕ) → walk .count ≤ 3 → x ≡ shown (walk .count) 0 (walk .first) → y ≡ shown (walk .count) 1 (walk .second) → z ≡ shown (walk .count) 2 (walk .third)
       → r ∷ walk .count ∷ x % 256 ∷ x / 256 % 256 ∷ y % 256 ∷ y / 256 % 256 ∷ z % 256 ∷ z / 256 % 256 ∷ flag ∷ 0 ∷ replicate 14 0 ≡ block r (noted walk) flag noPayload
-  unfolding block entry noPayload
-  block-source r flag x y z few ex ey ez = sym ((λ i. (r ∷ noted-length few i ∷ []) ++ leBytes 2 ((noted-first few ∙ sym ex) i) ++ leBytes 2 ((noted-second few ∙ sym ey) i)
-      ++ leBytes 2 ((noted-third few ∙ sym ez) i) ++ (flag ∷ 0 ∷ []) ++ replicate 14 0)
-      ∙ (λ i. (r ∷ walk .count ∷ []) ++ leBytes-two x i ++ leBytes-two y i ++ leBytes-two z i ++ (flag ∷ 0 ∷ []) ++ replicate 14 0))
+  unfolding noPayload
+  block-source r flag x y z few ex ey ez = sym (block-bytes r flag (noted walk) (replicate 14 0)
+      ∙ (λ i. blockBytes r flag (noted-length few i) ((noted-first few ∙ sym ex) i) ((noted-second few ∙ sym ey) i) ((noted-third few ∙ sym ez) i) (replicate 14 0)))
 
 -- a payload over the zeros
 pub block-payload : (r flag : ℕ) (way payload : List ℕ) → length payload ≡ 14 → edit 10 payload (block r way flag noPayload) ≡ block r way flag payload
-unfolding block entry noPayload
+unfolding noPayload
 block-payload r flag way payload long =
-    edit-seam prefix payload (replicate 14 0) 10 ten
-    ∙ ap (λ (n : ℕ). prefix ++ payload ++ drop n (replicate {A = ℕ} 14 0)) long
-    ∙ append-nil (prefix ++ payload)
+    ap (edit 10 payload) (block-bytes r flag way (replicate 14 0))
+    ∙ edit-seam (front []) payload (replicate 14 0) 10 refl
+    ∙ ap (λ (n : ℕ). front (payload ++ drop n (replicate {A = ℕ} 14 0))) long
+    ∙ ap front (append-nil payload)
+    ∙ sym (block-bytes r flag way payload)
   where
-    prefix : List ℕ
-    prefix = (r ∷ length way ∷ []) ++ entry way 0 ++ entry way 1 ++ entry way 2 ++ (flag ∷ 0 ∷ [])
-
-    ten : length prefix ≡ 10
-    ten = rw (leBytes-two (getD way 0 noBucket), leBytes-two (getD way 1 noBucket), leBytes-two (getD way 2 noBucket))
+    front : List ℕ → List ℕ
+    front = blockBytes r flag (length way) (getD way 0 noBucket) (getD way 1 noBucket) (getD way 2 noBucket)
 
 -- a walk that has met no bucket
 pub noted-none : (walk : Walk) → walk .count ≡ 0 → noted walk ≡ []

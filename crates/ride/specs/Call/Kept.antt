@@ -18,7 +18,6 @@ use Rattle.address.specs.Rules.Adjust.{after-formed, after-behind, after-grows}
 use Rattle.address.specs.Rules.Route.{Below, delivered, forwards-is, forwards-short}
 use Rattle.layout.specs.Bytes.{Bytes}
 use Rattle.layout.specs.Bytes.Tests.{and-right, and-both}
-use Rattle.layout.specs.Bytes.Numbers.{leBytes-two}
 use Rattle.layout.specs.Replies.{reply}
 use Rattle.bucket.specs.Region.{countOf, rideAt, slotOf}
 use Rattle.bucket.specs.Region.Keep.{slot-most}
@@ -29,6 +28,7 @@ use Rattle.file.specs.File.{mostOf, slotsOf, stateOf, bucketsOf, headerSound, r
 use Rattle.file.specs.File.Judge.{header-ranges, buckets-of, state-small}
 use Rattle.file.specs.File.Kept.{sound-bucket, ride-kept}
 use Rattle.ride.specs.Call.{Outcome, early, cut, everyOn, wayOf, ownOf, held, full, block, noPayload, adjustedTable, routed, searched, search, overfull, placed, insert, inserted, entry, forwardsIn}
+use Rattle.ride.specs.Call.Block.{blockBytes, block-bytes}
 use Rattle.ride.specs.Call.Open.{early-table, early-record, early-header, early-ahead}
 
 -- what a call that is not refused before its route has passed
@@ -204,12 +204,12 @@ search-table-kept file table client key answer sound =
 
 -- the forwards of a block are those of its route, and at most two
 pub forwards-block : (r flag : ℕ) (way payload : List ℕ) → length payload ≡ 14 → forwardsIn (block r way flag payload) ≡ forwards way
-unfolding forwardsIn block entry
-forwards-block r flag way payload long =
-    ap (λ (b : Bool). cond b (length way - 1) 0) (eq-eqb (length (block r way flag payload)) 24 whole) ∙ sym (forwards-is way)
+unfolding forwardsIn
+forwards-block r flag way payload long = rw (block-bytes r flag way payload)
+    (ap (λ (fits : Bool). cond fits (length way - 1) 0) (eq-eqb (length whole) 24 (omega (arith, long))) ∙ sym (forwards-is way))
   where
-    whole : length (block r way flag payload) ≡ 24
-    whole = rw (leBytes-two (getD way 0 noBucket), leBytes-two (getD way 1 noBucket), leBytes-two (getD way 2 noBucket)) (omega (arith, long))
+    whole : List ℕ
+    whole = blockBytes r flag (length way) (getD way 0 noBucket) (getD way 1 noBucket) (getD way 2 noBucket) payload
 
 pub forwards-few : (file table : List ℕ) (client key : ℕ) → Passed file table client → (r flag : ℕ) (payload : List ℕ) → length payload ≡ 14
     → forwardsIn (block r (wayOf file (imageOf table client) key) flag payload) ≤ 2
