@@ -2,59 +2,20 @@
 pub mod After
 pub mod Block
 pub mod Kept
-pub mod Open
 pub mod Replied
-pub mod Route
 use Prim.Native.Nat.{ℕ, suc, _+_, _-_}
-use mathlib.Core.Bool.{Bool, true, cond, not, _&&_}
+use mathlib.Core.Bool.{Bool, cond, not, _&&_}
 use mathlib.Core.List.{List, [], _∷_, _++_}
-use lib.Dec.{leb, ltb, eqb}
-use lib.ListN.{length, getD, take, replicate}
+use lib.Dec.{ltb, eqb}
+use lib.ListN.{length, getD, replicate}
 use Rattle.address.specs.Limits.{firstBuckets, noBucket}
-use Rattle.address.specs.declared.Image.{Image}
-use Rattle.address.specs.Rules.{buckets, address, route, imageAfter}
+use Rattle.address.specs.Rules.{imageAfter}
 use Rattle.layout.specs.Bytes.{leBytes}
-use Rattle.layout.specs.Replies.{Refusal, refuse, reply}
+use Rattle.layout.specs.Replies.{reply}
 use Rattle.bucket.specs.Region.{countOf, rideAt, slotOf}
-use Rattle.client.specs.Table.{imageOf, recordSound, tableRefusals, withImage}
-use Rattle.ride.specs.declared.Walk.{Walk}
-use Rattle.file.specs.File.{capacityOf, slotsOf, stateOf, bucketsOf, headerSound, regionOf, bucketSoundIn, withRide}
-
--- 14: answer block not 24 bytes, or insert's payload not 14. Then 2, 3, 4, 5, 6, before any route.
-pub early : List ℕ → List ℕ → ℕ → List Refusal
-early file table client =
-    tableRefusals table client
-    ++ (refuse 4 (not (recordSound table client))
-    ∷ refuse 5 (not (headerSound file))
-    ∷ refuse 6 (ltb (bucketsOf file) (buckets firstBuckets (imageOf table client)))
-    ∷ [])
-
--- The buckets up to and with the first at which a test fails.
-pub cut : (ℕ → Bool) → List ℕ → List ℕ
-cut test [] = []
-cut test (a ∷ way) = a ∷ cond (test a) (cut test way) []
-
-pub everyOn : (ℕ → Bool) → List ℕ → Bool
-everyOn test [] = true
-everyOn test (a ∷ way) = test a && everyOn test way
-
--- The route of a key from a client's image: the rules' route; with 7 it ends at the unsound bucket.
-pub wayOf : List ℕ → Image → ℕ → List ℕ
-wayOf file image key = route firstBuckets (stateOf file) image key
-
--- The buckets that a walk has noted, at most three.
-pub noted : Walk → List ℕ
-noted walk = take (walk .count) (walk .first ∷ walk .second ∷ walk .third ∷ [])
-
--- The key's own bucket: the slot that holds the key there, whether it is held, and whether the bucket holds S records.
-pub ownOf : List ℕ → ℕ → ℕ
-ownOf file key = address firstBuckets (stateOf file) key
-
-pub held : List ℕ → ℕ → Bool
-held file key = ltb (slotOf (regionOf file (ownOf file key)) key) (countOf (regionOf file (ownOf file key)))
-
-pub full : List ℕ → ℕ → Bool
-full file key = leb (slotsOf file) (countOf (regionOf file (ownOf file key)))
+use Rattle.client.specs.Table.{imageOf, withImage}
+use Rattle.file.specs.File.{capacityOf, stateOf, regionOf, bucketSoundIn, withRide}
+use Rattle.route.specs.Way.{early, cut, everyOn, wayOf, ownOf, held, full}
 
 -- The answer block: byte 0 the reply; byte 1 how many buckets the route has; bytes 2-7 their numbers in order, 65,535 where unused;
 -- byte 8 the flag; byte 9 zero; bytes 10-23 the payload a search found, otherwise zero.
@@ -78,7 +39,7 @@ pub record Outcome : Type 0 where
 pub adjustedTable : List ℕ → List ℕ → ℕ → ℕ → List ℕ
 adjustedTable file table client key = withImage table client (imageAfter firstBuckets (stateOf file) (imageOf table client) key)
 
--- A call up to its route: 14, 2 to 6, 7, else what it comes to once the key's own bucket is reached.
+-- A call up to its route: 14 if the answer block is not 24 bytes or insert's payload not 14, 2 to 6, 7, else what it comes to once the key's own bucket is reached.
 pub routed : Bool → List ℕ → List ℕ → ℕ → ℕ → List ℕ → Outcome → Outcome
 routed fits file table client key answer reached =
     let r = reply (early file table client) 0 in

@@ -1,71 +1,21 @@
-// Insert and search: the route, the answer block, and what is written.
-use address::Fate;
+// Insert and search: the answer block, and what is written.
 use address::Image;
 use file::Header;
+use route::End;
+use route::Opened;
+use route::Walk;
 ghost use mathlib.Core.Path.{_≡_};
-ghost use mathlib.Core.Bool.{true, cond};
-ghost use mathlib.Core.List.{_++_, _∷_, []};
+ghost use mathlib.Core.Bool.{cond};
 ghost use Prim.Native.Nat.{_+_, _*_, _≤_, _<_};
 ghost use lib.ListN.{length};
 ghost use lib.Dec.{ltb, eqb};
 ghost use Rattle.address.specs.Room.{ImageRoom};
-ghost use Rattle.address.specs.Rules.{Formed, NotAhead, level, adjusted};
+ghost use Rattle.address.specs.Rules.{level, adjusted};
 ghost use Rattle.client.specs.Table.{withImage};
-ghost use Rattle.bucket.specs.Region.{countOf, slotOf};
-ghost use Rattle.file.specs.File.{stateOf, bucketsOf, startOf, regionOf, bucketSoundIn};
-ghost use Rattle.file.specs.File.Judge.{Known};
-ghost use Rattle.layout.specs.Replies.{reply};
-ghost use Rattle.ride.specs.Call.{Outcome, searched, search, placed, insert, wayOf, early, noted, block, noPayload, forwardsIn};
+ghost use Rattle.route.specs.Way.{noted};
+ghost use Rattle.route.specs.Way.Noted.{shown};
+ghost use Rattle.ride.specs.Call.{Outcome, searched, search, placed, insert, block, noPayload, forwardsIn};
 ghost use Rattle.ride.specs.Call.After.{Reached};
-ghost use Rattle.ride.specs.Call.Block.{shown};
-ghost use Rattle.ride.specs.Call.Open.{Opening};
-ghost use Rattle.ride.specs.Call.Route.{Walked};
-
-// The buckets that a key has met, at most three, the last of them, and whether all were sound.
-pub struct Walk {
-    pub count: u32,
-    pub first: u32,
-    pub second: u32,
-    pub third: u32,
-}
-
-// Where a walk ended, whether all its buckets were sound, and then the slot that holds the key there, or the count.
-pub struct End {
-    pub sound: bool,
-    pub bucket: u32,
-    pub place: usize,
-    pub walk: Walk,
-}
-
-// One bucket more.
-fn note(walk: Walk, bucket: u32) -> Walk
-    requires { ⌜ walk .count ≤ 2 ⌝ }
-    ensures { λ r. ⌜ (noted r ≡ noted walk ++ (bucket ∷ [])) × (r .count ≡ walk .count + 1) ⌝ }
-{
-    let count = walk.count + 1;
-    if walk.count == 0 {
-        return Walk {
-            count,
-            first: bucket,
-            second: walk.second,
-            third: walk.third,
-        };
-    }
-    if walk.count == 1 {
-        return Walk {
-            count,
-            first: walk.first,
-            second: bucket,
-            third: walk.third,
-        };
-    }
-    Walk {
-        count,
-        first: walk.first,
-        second: walk.second,
-        third: bucket,
-    }
-}
 
 // A walk that has met no bucket.
 fn no_walk() -> Walk
@@ -76,101 +26,6 @@ fn no_walk() -> Walk
         first: address::NO_BUCKET,
         second: address::NO_BUCKET,
         third: address::NO_BUCKET,
-    }
-}
-
-// Walks a key's route from a client's image until a bucket keeps it or is unsound.
-pub fn walk_route(file: &[u8], header: Header, image: Image, key: u64) -> End
-    requires { ⌜ Known (now file) header × (image .level ≤ 12) × Formed 1 image × NotAhead 1 (stateOf (now file)) image ⌝ }
-    ensures { λ r. ⌜ Walked (now (file .entry)) key (wayOf (now (file .entry)) image key) (r .walk) (r .bucket) (r .sound) × (r .sound ≡ true → r .place ≡ slotOf (regionOf (now (file .entry)) (r .bucket)) key) ⌝ }
-{
-    let state = header.state;
-    let mut bucket = address::address(address::FIRST_BUCKETS, image, key);
-    let mut walk = Walk {
-        count: 0,
-        first: address::NO_BUCKET,
-        second: address::NO_BUCKET,
-        third: address::NO_BUCKET,
-    };
-    loop {
-        walk = note(walk, bucket);
-        let judged = file::judge_bucket(file, header, bucket, key);
-        let level = address::level_of(address::FIRST_BUCKETS, state, bucket);
-        let fate = address::fate_at(address::FIRST_BUCKETS, judged.sound, bucket, level, key);
-        match fate {
-            Fate::Keep => {
-                return End {
-                    sound: true,
-                    bucket,
-                    place: judged.place,
-                    walk,
-                };
-            }
-            Fate::SendOn(next) => {
-                bucket = next;
-            }
-            Fate::Unsound => {
-                return End {
-                    sound: false,
-                    bucket,
-                    place: 0,
-                    walk,
-                };
-            }
-        }
-    }
-}
-
-// A call's start: its refusal before any route, or 0 with the header and the client's image.
-pub struct Opened {
-    pub reply: u8,
-    pub header: Header,
-    pub image: Image,
-}
-
-// A refused start.
-fn not_opened(reply: u8) -> Opened
-    ensures { λ r. ⌜ r .reply ≡ reply ⌝ }
-{
-    let header = file::no_header();
-    let image = Image {
-        level: 0,
-        pointer: 0,
-    };
-    Opened {
-        reply,
-        header,
-        image,
-    }
-}
-
-// Judges table, client, record, header and image in the replies' order: 2, 3, 4, 5, 6, or 0.
-pub fn open(file: &[u8], table: &[u8], client: u64) -> Opened
-    ensures { λ r. ⌜ (r .reply ≡ reply (early (now (file .entry)) (now (table .entry)) client) 0) × (r .reply ≡ 0 → Opening (now (file .entry)) (now (table .entry)) client (r .header) (r .image)) ⌝ }
-{
-    let refused = client::table_refusal(table, client);
-    if refused != 0 {
-        return not_opened(refused);
-    }
-    let record = client::client_of(table, client);
-    if !record.sound {
-        return not_opened(4);
-    }
-    let header = file::header_of(file);
-    if !header.sound {
-        return not_opened(5);
-    }
-    let image = record.image;
-    let state = header.state;
-    if address::buckets(address::FIRST_BUCKETS, state)
-        < address::buckets(address::FIRST_BUCKETS, image)
-    {
-        return not_opened(6);
-    }
-    Opened {
-        reply: 0,
-        header,
-        image,
     }
 }
 
@@ -269,13 +124,13 @@ pub fn search(file: &[u8], table: &mut [u8], client: u64, key: u64, answer: &mut
     if answer.len() != 24 {
         return 14;
     }
-    let opened = open(file, table, client);
+    let opened = route::open(file, table, client);
     let refused = opened.reply;
     if refused != 0 {
         put_block(answer, refused, no_walk(), 0);
         return refused;
     }
-    let end = walk_route(file, opened.header, opened.image, key);
+    let end = route::walk_route(file, opened.header, opened.image, key);
     if !end.sound {
         put_block(answer, 7, end.walk, 0);
         return 7;
@@ -341,13 +196,13 @@ pub fn insert(
     if !fits {
         return 14;
     }
-    let opened = open(file, table, client);
+    let opened = route::open(file, table, client);
     let refused = opened.reply;
     if refused != 0 {
         put_block(answer, refused, no_walk(), 0);
         return refused;
     }
-    let end = walk_route(file, opened.header, opened.image, key);
+    let end = route::walk_route(file, opened.header, opened.image, key);
     if !end.sound {
         put_block(answer, 7, end.walk, 0);
         return 7;

@@ -18,7 +18,7 @@ use Rattle.layout.specs.Replies.{reply}
 use Rattle.bucket.specs.Region.{ridesOf, keysOf}
 use Rattle.client.specs.Table.{imageOf}
 use Rattle.file.specs.File.{stateOf, bucketsOf, regionOf, bucketSoundIn}
-use Rattle.ride.specs.Call.{early, everyOn}
+use Rattle.route.specs.Way.{early, everyOn}
 
 -- A key's upper 32 bits are the lift: it is of a lift if they are that number.
 pub ofLift : ℕ → ℕ → Bool

@@ -10,7 +10,7 @@ ghost use Rattle.layout.specs.Bytes.{edit};
 ghost use Rattle.bucket.specs.Region.{countOf};
 ghost use Rattle.file.specs.File.{bucketsOf, regionOf, bucketSoundIn};
 ghost use Rattle.file.specs.File.Judge.{Known};
-ghost use Rattle.ride.specs.Call.{everyOn};
+ghost use Rattle.route.specs.Way.{everyOn};
 ghost use Rattle.scan.specs.Scan.{Scanned, ofLift, matching, keysIn, matchesOn, visitsOf, collected, scan};
 ghost use Rattle.scan.specs.Scan.Tally.{Judged};
 ghost use Rattle.scan.specs.Scan.Way.{Ready, Way};
@@ -213,7 +213,7 @@ pub fn scan(
 ) -> ScanAnswer
     ensures { λ r. ⌜ record { answer = r .reply; bucket = r .bucket; visits = r .visits; matches = r .matches; visitList = now (visits .exit); matchList = now (matches .exit) } ≡ scan (now (file .entry)) (now (table .entry)) client lift (now (visits .entry)) (now (matches .entry)) ⌝ }
 {
-    let opened = ride::open(file, table, client);
+    let opened = route::open(file, table, client);
     if opened.reply != 0 {
         return refused_scan(opened.reply as u32, address::NO_BUCKET);
     }

@@ -2,9 +2,10 @@
 use mathlib.Core.Path.{refl, sym, _∙_}
 use native.Mathlib.Omega.{arith}
 use borrow.Author.Tests.{leb-false}
-use Rattle.ride.specs.Call.{noted}
+use Rattle.route.specs.Way.{noted}
+use Rattle.route.specs.Way.Own.{held-is, full-is}
 use Rattle.ride.specs.Call.After.{arrived}
-use Rattle.ride.specs.Call.Replied.{held-is, full-is, over-is, inserted-is, insert-held, insert-full, insert-done}
+use Rattle.ride.specs.Call.Replied.{over-is, inserted-is, insert-held, insert-full, insert-done}
 use borrow.Author.Needs.{needs}
 use Rattle.ride.proofs.finish_insert.Statement.{statement}
 use Rattle.ride.proofs.finish_insert.Tie as tie

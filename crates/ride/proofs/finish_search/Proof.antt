@@ -7,10 +7,11 @@ use Rattle.bucket.specs.Region.{rideAt, slotOf}
 use Rattle.layout.specs.Bytes.{edit}
 use Rattle.file.specs.File.{slotsOf, regionOf}
 use Rattle.file.specs.File.Region.{sound-few}
-use Rattle.ride.specs.Call.{noted}
+use Rattle.route.specs.Way.{noted}
+use Rattle.route.specs.Way.Own.{held-is}
 use Rattle.ride.specs.Call.After.{arrived, payload-cut}
 use Rattle.ride.specs.Call.Block.{block-payload}
-use Rattle.ride.specs.Call.Replied.{held-is, search-found, search-absent}
+use Rattle.ride.specs.Call.Replied.{search-found, search-absent}
 use borrow.Author.Needs.{needs}
 use Rattle.ride.proofs.finish_search.Statement.{statement}
 use Rattle.ride.proofs.finish_search.Tie as tie

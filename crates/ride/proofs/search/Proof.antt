@@ -7,10 +7,11 @@ use native.Mathlib.Omega.{arith}
 use borrow.Author.Tests.{not-true, not-false, eq-eqb, ne-eqb}
 use Rattle.address.specs.declared.Image.{Image}
 use Rattle.file.specs.File.{bucketSoundIn}
-use Rattle.ride.specs.declared.Walk.{Walk}
-use Rattle.ride.specs.Call.{searched, block, noPayload, noted, wayOf, everyOn, cut}
-use Rattle.ride.specs.Call.Block.{noted-none}
-use Rattle.ride.specs.Call.Route.{Walked}
+use Rattle.route.specs.declared.Walk.{Walk}
+use Rattle.route.specs.Way.{noted, wayOf, everyOn, cut}
+use Rattle.route.specs.Way.Noted.{noted-none}
+use Rattle.route.specs.Way.Route.{Walked}
+use Rattle.ride.specs.Call.{searched, block, noPayload}
 use Rattle.ride.specs.Call.Replied.{search-is, routed-block, routed-early, routed-stopped, routed-reached}
 use borrow.Author.Needs.{needs}
 use Rattle.ride.proofs.search.Statement.{statement}

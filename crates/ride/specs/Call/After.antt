@@ -25,11 +25,12 @@ use Rattle.file.specs.File.{mostOf, slotsOf, stateOf, startOf, regionOf}
 use Rattle.file.specs.File.Region.{region-is, region-fits, place-room}
 use Rattle.file.specs.File.Judge.{Known, state-small, buckets-of}
 use Rattle.file.specs.declared.Header.{Header}
-use Rattle.ride.specs.declared.Walk.{Walk}
-use Rattle.ride.specs.Call.{wayOf, ownOf, noted, adjustedTable}
-use Rattle.ride.specs.Call.Open.{Opening}
-use Rattle.ride.specs.Call.Route.{Walked}
-use Rattle.ride.specs.Call.Block.{noted-length, noted-first}
+use Rattle.route.specs.declared.Walk.{Walk}
+use Rattle.route.specs.Way.{wayOf, ownOf, noted}
+use Rattle.route.specs.Way.Noted.{noted-length, noted-first}
+use Rattle.route.specs.Way.Open.{Opening}
+use Rattle.route.specs.Way.Route.{Walked, way-route}
+use Rattle.ride.specs.Call.{adjustedTable}
 
 some-first : 0 < firstBuckets
 some-first = omega arith
@@ -42,8 +43,7 @@ last-none a (b ∷ rest) e = absurd (omega arith)
 module _ (file : List ℕ) (header : Header) (seen : Known file header) (image : Image) (formed : Formed firstBuckets image) (behind : NotAhead firstBuckets (stateOf file) image)
     (key : ℕ) (walk : Walk) (a : ℕ) (ended : Walked file key (wayOf file image key) walk a true) where
   way-is-route : noted walk ≡ route firstBuckets (stateOf file) image key
-  unfolding wayOf
-  way-is-route = ended .whole refl
+  way-is-route = ended .whole refl ∙ way-route file image key
 
   -- the route's buckets, by their count
   counted : (h : ℕ) × (Delivered firstBuckets (stateOf file) key (address firstBuckets image key) h (route firstBuckets (stateOf file) image key)) × (walk .count ≡ suc h)

@@ -5,13 +5,14 @@ use mathlib.Core.Bool.{Bool, true, false, cond, _&&_}
 use mathlib.Core.List.{List, []}
 use native.Mathlib.Omega.{arith}
 use borrow.Author.Tests.{eq-eqb, ne-eqb}
-use lib.Dec.{leb, ltb, eqb}
+use lib.Dec.{ltb, eqb}
 use lib.ListN.{length}
 use Rattle.layout.specs.Replies.{reply}
 use Rattle.bucket.specs.Region.{countOf, rideAt, slotOf}
 use Rattle.client.specs.Table.{imageOf}
-use Rattle.file.specs.File.{capacityOf, slotsOf, regionOf, bucketSoundIn, withRide}
-use Rattle.ride.specs.Call.{Outcome, early, cut, everyOn, wayOf, ownOf, held, full, block, noPayload, adjustedTable, routed, searched, search, placed, insert, inserted, overfull}
+use Rattle.file.specs.File.{capacityOf, regionOf, bucketSoundIn, withRide}
+use Rattle.route.specs.Way.{early, cut, everyOn, wayOf, ownOf, held, full}
+use Rattle.ride.specs.Call.{Outcome, block, noPayload, adjustedTable, routed, searched, search, placed, insert, inserted, overfull}
 
 module _ (file table : List ℕ) (client key : ℕ) (answer : List ℕ) (reached : Outcome) where
   pub routed-block : record { answer = 14; block = answer; table = table; file = file } ≡ routed false file table client key answer reached
@@ -52,16 +53,8 @@ pub insert-single : (file table : List ℕ) (client key : ℕ) (payload answer :
     → o ≡ insert file table client key payload answer → p ≡ insert file table client key payload answer → o ≡ p
 insert-single file table client key payload answer o p eo ep = eo ∙ sym ep
 
--- held, full and over the capacity, by the own bucket's slots
+-- over the capacity, and one ride more, in the own bucket
 module _ (file : List ℕ) (key a : ℕ) (own : a ≡ ownOf file key) where
-  pub held-is : (k n : ℕ) → k ≡ slotOf (regionOf file a) key → n ≡ countOf (regionOf file a) → ltb k n ≡ held file key
-  unfolding held
-  held-is k n ek en = ap₂ ltb (ek ∙ ap (λ (x : ℕ). slotOf (regionOf file x) key) own) (en ∙ ap (λ (x : ℕ). countOf (regionOf file x)) own)
-
-  pub full-is : (S n : ℕ) → S ≡ slotsOf file → n ≡ countOf (regionOf file a) → leb S n ≡ full file key
-  unfolding full
-  full-is S n eS en = ap₂ leb eS (en ∙ ap (λ (x : ℕ). countOf (regionOf file x)) own)
-
   pub over-is : (b after n : ℕ) → b ≡ capacityOf file → after ≡ n + 1 → n ≡ countOf (regionOf file a) → cond (ltb b after) 1 0 ≡ overfull file key
   unfolding overfull
   over-is b after n eb ea en = ap₂ (λ (x y : ℕ). cond (ltb x y) 1 0) eb (ea ∙ ap (λ (x : ℕ). x + 1) (en ∙ ap (λ (x : ℕ). countOf (regionOf file x)) own) ∙ omega arith)

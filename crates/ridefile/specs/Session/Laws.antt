@@ -13,7 +13,8 @@ use Rattle.address.specs.Limits.{noBucket}
 use Rattle.layout.specs.Replies.{reply}
 use Rattle.client.specs.Table.{Joined, join}
 use Rattle.file.specs.File.{Created, create, Splitted, split, bucketsOf}
-use Rattle.ride.specs.Call.{Outcome, early, insert, search}
+use Rattle.ride.specs.Call.{Outcome, insert, search}
+use Rattle.route.specs.Way.{early}
 use Rattle.scan.specs.Scan.{Scanned, scan}
 use Rattle.scan.specs.Scan.Accepted.{scan-refused, scan-visits-count}
 use Rattle.scan.specs.Scan.Replied.{answered, refusal, scan-early, scan-short}

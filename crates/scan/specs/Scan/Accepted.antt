@@ -23,9 +23,9 @@ use Rattle.client.specs.Table.Laws.{record-image}
 use Rattle.file.specs.File.{stateOf, bucketsOf, bucketSoundIn, fileSound}
 use Rattle.file.specs.File.Judge.{header-ranges, buckets-of}
 use Rattle.file.specs.File.Kept.{sound-bucket}
-use Rattle.ride.specs.Call.{early, everyOn, held}
-use Rattle.ride.specs.Call.Kept.{Passed, passed}
-use Rattle.ride.specs.Call.Route.{every-none}
+use Rattle.route.specs.Way.{early, everyOn, held}
+use Rattle.route.specs.Way.Kept.{Passed, passed}
+use Rattle.route.specs.Way.Route.{every-none}
 use Rattle.scan.specs.Scan.{Scanned, ofLift, keysIn, matchesOn, visitsOf, firstUnsound, scan}
 use Rattle.scan.specs.Scan.Found.{own, once, elsewhere, held-times, other-times, visited}
 use Rattle.scan.specs.Scan.Replied.{answered, refusal, collected-unsound, collected-short, collected-done, scan-early, scan-short, scan-long}

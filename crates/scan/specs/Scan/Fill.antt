@@ -18,7 +18,7 @@ use Rattle.file.specs.File.{slotsOf, bucketsOf, startOf, regionOf, bucketSoundI
 use Rattle.file.specs.File.Judge.{Known}
 use Rattle.file.specs.File.Region.{region-is, sound-few, known-fits}
 use Rattle.file.specs.declared.Header.{Header}
-use Rattle.ride.specs.Call.{everyOn}
+use Rattle.route.specs.Way.{everyOn}
 use Rattle.scan.specs.Scan.{ofLift, matching, keysIn, matchesOn}
 use Rattle.scan.specs.Scan.Tally.{match-in, match-out, match-none, matches-first, matches-none}
 use Rattle.scan.specs.Scan.Way.{rest-first, rest-none, every-first, every-next}

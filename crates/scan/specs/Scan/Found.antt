@@ -17,9 +17,8 @@ use Rattle.bucket.specs.Region.Keep.{keys-at, slot-holds, slot-most, fresh}
 use Rattle.bucket.specs.Region.Rides.{every-times, distinct-times}
 use Rattle.file.specs.File.{stateOf, regionOf, bucketSoundIn}
 use Rattle.file.specs.File.Write.{bucket-shown}
-use Rattle.ride.specs.Call.{everyOn, held}
-use Rattle.ride.specs.Call.Replied.{held-is}
-use Rattle.ride.specs.Call.Route.{own-is}
+use Rattle.route.specs.Way.{everyOn, held}
+use Rattle.route.specs.Way.Own.{held-is, own-is}
 use Rattle.scan.specs.Scan.{ofLift, matching, keysIn, matchesOn}
 use Rattle.scan.specs.Scan.Tally.{match-in, match-out, match-none, matches-first, matches-none, keys-in-count}
 use Rattle.scan.specs.Scan.Way.{times-at, every-first, every-next}

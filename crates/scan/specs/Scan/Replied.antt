@@ -10,7 +10,7 @@ use Rattle.layout.specs.Bytes.{edit}
 use Rattle.layout.specs.Replies.{reply}
 use Rattle.client.specs.Table.{imageOf}
 use Rattle.file.specs.File.{bucketsOf, bucketSoundIn}
-use Rattle.ride.specs.Call.{early, everyOn}
+use Rattle.route.specs.Way.{early, everyOn}
 use Rattle.scan.specs.declared.ScanAnswer.{ScanAnswer}
 use Rattle.scan.specs.Scan.{Scanned, matchesOn, visitsOf, firstUnsound, refused, collected, scan}
 

@@ -10,8 +10,8 @@ use Rattle.address.specs.Limits.{noBucket}
 use Rattle.bucket.specs.Region.{countOf}
 use Rattle.bucket.specs.Region.Keep.{keys-count}
 use Rattle.file.specs.File.{regionOf, bucketSoundIn}
-use Rattle.ride.specs.Call.{everyOn}
-use Rattle.ride.specs.Call.Route.{every-fails, every-none}
+use Rattle.route.specs.Way.{everyOn}
+use Rattle.route.specs.Way.Route.{every-fails, every-none}
 use Rattle.scan.specs.Scan.{ofLift, matching, keysIn, matchesOn, firstUnsound}
 use Rattle.scan.specs.Scan.Way.{rest-first, rest-none, every-next}
 

@@ -19,9 +19,9 @@ use Rattle.file.specs.File.{stateOf, bucketsOf, headerSound}
 use Rattle.file.specs.File.Judge.{Ranges, header-ranges, Known, buckets-of}
 use Rattle.file.specs.File.Region.{buckets-known}
 use Rattle.file.specs.declared.Header.{Header}
-use Rattle.ride.specs.Call.{everyOn}
-use Rattle.ride.specs.Call.Open.{Opening}
-use Rattle.ride.specs.Call.Route.{every-past, every-fails, every-one}
+use Rattle.route.specs.Way.{everyOn}
+use Rattle.route.specs.Way.Open.{Opening}
+use Rattle.route.specs.Way.Route.{every-past, every-fails, every-one}
 use Rattle.order.specs.Queue.{Scannable}
 use Rattle.scan.specs.Scan.{visitsOf}
 

@@ -1,10 +1,10 @@
--- `ride::note` puts the bucket at the place that the count tells.
+-- `route::note` puts the bucket at the place that the count tells.
 use mathlib.Core.Path.{refl}
 use native.Mathlib.Omega.{arith}
-use Rattle.ride.specs.Call.Route.{note-first, note-second, note-third}
+use Rattle.route.specs.Way.Noted.{note-first, note-second, note-third}
 use borrow.Author.Needs.{needs}
-use Rattle.ride.proofs.note.Statement.{statement}
-use Rattle.ride.proofs.note.Tie as tie
+use Rattle.route.proofs.note.Statement.{statement}
+use Rattle.route.proofs.note.Tie as tie
 
 add-count : tie.Need-add-count
 add-count c = search needs

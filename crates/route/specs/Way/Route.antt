@@ -5,10 +5,9 @@ use mathlib.Core.Bool.{Bool, true, false, cond, false≢true}
 use mathlib.Core.List.{List, [], _∷_, _++_, append-assoc}
 use mathlib.Core.Logic.{⊎-elim}
 use native.Mathlib.Omega.{arith}
-use lib.ListN.{take}
 use Rattle.address.specs.Limits.{firstBuckets}
 use Rattle.address.specs.declared.Image.{Image}
-use Rattle.address.specs.Rules.{Formed, NotAhead, buckets, hash, address, level, onward, fate, routeFrom}
+use Rattle.address.specs.Rules.{Formed, NotAhead, buckets, hash, address, level, onward, fate, route, routeFrom}
 use Rattle.address.specs.Compare.{same}
 use Rattle.address.specs.Rules.Cases.{buckets-is, fate-kept, fate-sent, fate-stopped}
 use Rattle.address.specs.declared.Fate.the-variants.{Keep, SendOn, Unsound}
@@ -17,8 +16,10 @@ use Rattle.address.specs.Rules.Route.{Reaches, kept, sent, reaches, reaches-roo
 use Rattle.layout.specs.Bytes.Tests.{and-left, and-right}
 use Rattle.file.specs.File.{stateOf, bucketsOf, bucketSoundIn}
 use Rattle.file.specs.File.Judge.{buckets-of}
-use Rattle.ride.specs.declared.Walk.{Walk}
-use Rattle.ride.specs.Call.{cut, everyOn, wayOf, ownOf, noted}
+use Rattle.route.specs.declared.Walk.{Walk}
+use Rattle.route.specs.Way.{cut, everyOn, wayOf, ownOf, noted}
+use Rattle.route.specs.Way.Noted.{noted-none}
+use Rattle.route.specs.Way.Own.{own-is}
 
 -- a file has a first bucket
 some-first : 0 < firstBuckets
@@ -61,13 +62,17 @@ every-none test = refl
 
 -- ---- a walk on its way to bucket a
 
+pub way-route : (file : List ℕ) (image : Image) (key : ℕ) → wayOf file image key ≡ route firstBuckets (stateOf file) image key
+unfolding wayOf
+way-route file image key = refl
+
 -- the route from a first bucket
 pub wayFrom : List ℕ → ℕ → ℕ → List ℕ
 wayFrom file key start = routeFrom firstBuckets (stateOf file) key (buckets firstBuckets (stateOf file)) start
 
 pub way-is : (file : List ℕ) (image : Image) (key start : ℕ) → start ≡ address firstBuckets image key → wayFrom file key start ≡ wayOf file image key
-unfolding wayFrom wayOf
-way-is file image key start e = ap (routeFrom firstBuckets (stateOf file) key (buckets firstBuckets (stateOf file))) e ∙ sym (route-is firstBuckets (stateOf file) image key)
+unfolding wayFrom
+way-is file image key start e = ap (routeFrom firstBuckets (stateOf file) key (buckets firstBuckets (stateOf file))) e ∙ sym (way-route file image key ∙ route-is firstBuckets (stateOf file) image key)
 
 pub record Walking (file : List ℕ) (key : ℕ) (way : List ℕ) (walk : Walk) (a : ℕ) : Type 0 where
   pub left : ℕ
@@ -77,10 +82,6 @@ pub record Walking (file : List ℕ) (key : ℕ) (way : List ℕ) (walk : Walk) 
   pub few : walk .count + left ≤ 2
   pub whole : way ≡ noted walk ++ routeFrom firstBuckets (stateOf file) key most a
   pub fine : everyOn (bucketSoundIn file) (noted walk) ≡ true
-
-pub own-is : (file : List ℕ) (key a : ℕ) → address firstBuckets (stateOf file) key ≡ a → ownOf file key ≡ a
-unfolding ownOf
-own-is file key a e = e
 
 -- what a walk that ended tells: the route up to its first unsound bucket, and whether all were sound; then it ends at the key's own bucket
 pub record Walked (file : List ℕ) (key : ℕ) (way : List ℕ) (walk : Walk) (a : ℕ) (all : Bool) : Type 0 where
@@ -97,7 +98,7 @@ module _ (file : List ℕ) (key : ℕ) (formed : Formed firstBuckets (stateOf fi
   -- a walk starts at the client's first bucket
   pub walking-start : (image : Image) (walk : Walk) → walk .count ≡ 0 → Formed firstBuckets image → NotAhead firstBuckets (stateOf file) image
       → (start : ℕ) → start ≡ address firstBuckets image key → Walking file key (wayFrom file key start) walk start
-  unfolding wayFrom noted
+  unfolding wayFrom
   walking-start image walk none imageFormed behind start es =
       let (h, short, r) = reaches firstBuckets some-first (stateOf file) formed image imageFormed behind key in
       record {
@@ -106,12 +107,9 @@ module _ (file : List ℕ) (key : ℕ) (formed : Formed firstBuckets (stateOf fi
         reached = rw es r;
         room = omega (arith, reaches-room firstBuckets some-first (stateOf file) formed r);
         few = omega arith;
-        whole = ap (λ (n : ℕ). take n (walk .first ∷ walk .second ∷ walk .third ∷ []) ++ routeFrom firstBuckets (stateOf file) key (buckets firstBuckets (stateOf file)) start) (sym none);
-        fine = ap (λ (n : ℕ). everyOn (bucketSoundIn file) (take n (walk .first ∷ walk .second ∷ walk .third ∷ []))) none ∙ nothing;
+        whole = ap (λ (l : List ℕ). l ++ routeFrom firstBuckets (stateOf file) key (buckets firstBuckets (stateOf file)) start) (sym (noted-none walk none));
+        fine = ap (everyOn (bucketSoundIn file)) (noted-none walk none) ∙ every-none (bucketSoundIn file);
       }
-    where
-      nothing : everyOn (bucketSoundIn file) [] ≡ true
-      nothing = every-none (bucketSoundIn file)
 
   module _ (way : List ℕ) (walk next : Walk) (a : ℕ) (so : Walking file key way walk a) (noting : noted next ≡ noted walk ++ (a ∷ [])) (counted : next .count ≡ walk .count + 1) where
     -- the bucket that a walk is at exists
@@ -204,17 +202,3 @@ module _ (file : List ℕ) (key : ℕ) (formed : Formed firstBuckets (stateOf fi
       met-send b e =
           let (good, leaves, to) = fate-sent firstBuckets a l key sound b e in
           walk-sent b (sym es ∙ good) (λ h. leaves (ap (λ (k : ℕ). hash firstBuckets k key) el ∙ h)) (ap (λ (k : ℕ). onward firstBuckets a k key) (sym el) ∙ to)
-
--- a walk noted by its count
-module _ (walk : Walk) (a : ℕ) where
-  pub note-first : walk .count ≡ 0 → noted (record { count = walk .count + 1; first = a; second = walk .second; third = walk .third }) ≡ noted walk ++ (a ∷ [])
-  unfolding noted
-  note-first e = rw e
-
-  pub note-second : walk .count ≡ 1 → noted (record { count = walk .count + 1; first = walk .first; second = a; third = walk .third }) ≡ noted walk ++ (a ∷ [])
-  unfolding noted
-  note-second e = rw e
-
-  pub note-third : walk .count ≡ 2 → noted (record { count = walk .count + 1; first = walk .first; second = walk .second; third = a }) ≡ noted walk ++ (a ∷ [])
-  unfolding noted
-  note-third e = rw e

@@ -18,7 +18,7 @@ use Rattle.client.specs.Table.Laws.{table-refused, table-passes, record-image}
 use Rattle.file.specs.File.{bucketsOf, stateOf, headerSound}
 use Rattle.file.specs.File.Judge.{Known}
 use Rattle.file.specs.declared.Header.{Header}
-use Rattle.ride.specs.Call.{early}
+use Rattle.route.specs.Way.{early}
 
 module _ (file table : List ℕ) (client : ℕ) where
   split-early : reply (early file table client) 0 ≡ reply (tableRefusals table client)

@@ -1,4 +1,4 @@
--- `ride::open` judges in the replies' order; what each judgment showed is known of a call that passes.
+-- `route::open` judges in the replies' order; what each judgment showed is known of a call that passes.
 use mathlib.Core.Path.{sym, ap, _∙_}
 use native.Mathlib.Omega.{arith}
 use borrow.Author.Tests.{not-true, not-false}
@@ -8,10 +8,10 @@ use Rattle.file.specs.File.Region.{buckets-known}
 use Rattle.address.specs.Rules.{buckets}
 use Rattle.address.specs.Rules.Cases.{buckets-is}
 use Rattle.file.specs.File.{stateOf}
-use Rattle.ride.specs.Call.Open.{early-table, early-record, early-header, early-ahead, early-none, image-known}
+use Rattle.route.specs.Way.Open.{early-table, early-record, early-header, early-ahead, early-none, image-known}
 use borrow.Author.Needs.{needs}
-use Rattle.ride.proofs.open.Statement.{statement}
-use Rattle.ride.proofs.open.Tie as tie
+use Rattle.route.proofs.open.Statement.{statement}
+use Rattle.route.proofs.open.Tie as tie
 
 table-refusal-requires : tie.Need-table-refusal-requires
 table-refusal-requires c κs = search needs

@@ -1,4 +1,4 @@
--- `ride::walk_route`: what is noted and what is still to come are the route from the first bucket; each bucket keeps the key, sends it on or is unsound.
+-- `route::walk_route`: what is noted and what is still to come are the route from the first bucket; each bucket keeps the key, sends it on or is unsound.
 use borrow.Author.Needs.{needs}
 use Prim.Native.Nat.{ℕ, _≤_, _-_}
 use mathlib.Core.Path.{refl, sym, ap, subst, _∙_}
@@ -10,9 +10,9 @@ use Rattle.address.specs.Rules.{level}
 use Rattle.address.specs.Rules.Cases.{buckets-is, level-high}
 use Rattle.file.specs.File.{stateOf}
 use Rattle.file.specs.File.Judge.{buckets-of}
-use Rattle.ride.specs.Call.Route.{Walked, Walking, wayFrom, way-is, walking-start, walking-exists, met-keep, met-unsound, met-send}
-use Rattle.ride.proofs.walk_route.Statement.{statement}
-use Rattle.ride.proofs.walk_route.Tie as tie
+use Rattle.route.specs.Way.Route.{Walked, Walking, wayFrom, way-is, walking-start, walking-exists, met-keep, met-unsound, met-send}
+use Rattle.route.proofs.walk_route.Statement.{statement}
+use Rattle.route.proofs.walk_route.Tie as tie
 
 abbrev Inv-loop : tie.InvT-loop
 Inv-loop file header key state bucket₀ walk₀ bucket walk = (walk .count ≤ 2) × Walking file key (wayFrom file key bucket₀) walk bucket

@@ -1,0 +1,55 @@
+-- What a call of a client begins with, as document 01 has it: the refusals 2 to 6 in their order, the route of a key, and the key's own bucket.
+pub mod Kept
+pub mod Noted
+pub mod Open
+pub mod Own
+pub mod Route
+use Prim.Native.Nat.{ℕ}
+use mathlib.Core.Bool.{Bool, true, cond, not, _&&_}
+use mathlib.Core.List.{List, [], _∷_, _++_}
+use lib.Dec.{leb, ltb}
+use lib.ListN.{take}
+use Rattle.address.specs.Limits.{firstBuckets}
+use Rattle.address.specs.declared.Image.{Image}
+use Rattle.address.specs.Rules.{buckets, address, route}
+use Rattle.layout.specs.Replies.{Refusal, refuse}
+use Rattle.bucket.specs.Region.{countOf, slotOf}
+use Rattle.client.specs.Table.{imageOf, recordSound, tableRefusals}
+use Rattle.file.specs.File.{slotsOf, stateOf, bucketsOf, headerSound, regionOf}
+use Rattle.route.specs.declared.Walk.{Walk}
+
+-- 2, 3, 4, 5, 6, before any route.
+pub early : List ℕ → List ℕ → ℕ → List Refusal
+early file table client =
+    tableRefusals table client
+    ++ (refuse 4 (not (recordSound table client))
+    ∷ refuse 5 (not (headerSound file))
+    ∷ refuse 6 (ltb (bucketsOf file) (buckets firstBuckets (imageOf table client)))
+    ∷ [])
+
+-- The buckets up to and with the first at which a test fails.
+pub cut : (ℕ → Bool) → List ℕ → List ℕ
+cut test [] = []
+cut test (a ∷ way) = a ∷ cond (test a) (cut test way) []
+
+pub everyOn : (ℕ → Bool) → List ℕ → Bool
+everyOn test [] = true
+everyOn test (a ∷ way) = test a && everyOn test way
+
+-- The route of a key from a client's image: the rules' route; with 7 it ends at the unsound bucket.
+pub wayOf : List ℕ → Image → ℕ → List ℕ
+wayOf file image key = route firstBuckets (stateOf file) image key
+
+-- The buckets that a walk has noted, at most three.
+pub noted : Walk → List ℕ
+noted walk = take (walk .count) (walk .first ∷ walk .second ∷ walk .third ∷ [])
+
+-- The key's own bucket: the slot that holds the key there, whether it is held, and whether the bucket holds S records.
+pub ownOf : List ℕ → ℕ → ℕ
+ownOf file key = address firstBuckets (stateOf file) key
+
+pub held : List ℕ → ℕ → Bool
+held file key = ltb (slotOf (regionOf file (ownOf file key)) key) (countOf (regionOf file (ownOf file key)))
+
+pub full : List ℕ → ℕ → Bool
+full file key = leb (slotsOf file) (countOf (regionOf file (ownOf file key)))

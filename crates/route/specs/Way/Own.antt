@@ -1,0 +1,23 @@
+-- The key's own bucket, and whether it holds the key and is full, by what was found there.
+use Prim.Native.Nat.{ℕ}
+use mathlib.Core.Path.{_≡_, ap, ap₂, _∙_}
+use mathlib.Core.List.{List}
+use lib.Dec.{leb, ltb}
+use Rattle.address.specs.Limits.{firstBuckets}
+use Rattle.address.specs.Rules.{address}
+use Rattle.bucket.specs.Region.{countOf, slotOf}
+use Rattle.file.specs.File.{slotsOf, stateOf, regionOf}
+use Rattle.route.specs.Way.{ownOf, held, full}
+
+pub own-is : (file : List ℕ) (key a : ℕ) → address firstBuckets (stateOf file) key ≡ a → ownOf file key ≡ a
+unfolding ownOf
+own-is file key a e = e
+
+module _ (file : List ℕ) (key a : ℕ) (own : a ≡ ownOf file key) where
+  pub held-is : (k n : ℕ) → k ≡ slotOf (regionOf file a) key → n ≡ countOf (regionOf file a) → ltb k n ≡ held file key
+  unfolding held
+  held-is k n ek en = ap₂ ltb (ek ∙ ap (λ (x : ℕ). slotOf (regionOf file x) key) own) (en ∙ ap (λ (x : ℕ). countOf (regionOf file x)) own)
+
+  pub full-is : (S n : ℕ) → S ≡ slotsOf file → n ≡ countOf (regionOf file a) → leb S n ≡ full file key
+  unfolding full
+  full-is S n eS en = ap₂ leb eS (en ∙ ap (λ (x : ℕ). countOf (regionOf file x)) own)

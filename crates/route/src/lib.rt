@@ -1,0 +1,157 @@
+// What insert, search and scan begin with: a client's refusals, and a key's route.
+use address::Fate;
+use address::Image;
+use file::Header;
+ghost use mathlib.Core.Path.{_≡_};
+ghost use mathlib.Core.Bool.{true};
+ghost use mathlib.Core.List.{_++_, _∷_, []};
+ghost use Prim.Native.Nat.{_+_, _≤_};
+ghost use Rattle.address.specs.Rules.{Formed, NotAhead};
+ghost use Rattle.bucket.specs.Region.{slotOf};
+ghost use Rattle.file.specs.File.{stateOf, regionOf};
+ghost use Rattle.file.specs.File.Judge.{Known};
+ghost use Rattle.layout.specs.Replies.{reply};
+ghost use Rattle.route.specs.Way.{wayOf, early, noted};
+ghost use Rattle.route.specs.Way.Open.{Opening};
+ghost use Rattle.route.specs.Way.Route.{Walked};
+
+// The buckets that a key has met, at most three.
+pub struct Walk {
+    pub count: u32,
+    pub first: u32,
+    pub second: u32,
+    pub third: u32,
+}
+
+// Where a walk ended, whether all its buckets were sound, and then the slot that holds the key there, or the count.
+pub struct End {
+    pub sound: bool,
+    pub bucket: u32,
+    pub place: usize,
+    pub walk: Walk,
+}
+
+// One bucket more.
+fn note(walk: Walk, bucket: u32) -> Walk
+    requires { ⌜ walk .count ≤ 2 ⌝ }
+    ensures { λ r. ⌜ (noted r ≡ noted walk ++ (bucket ∷ [])) × (r .count ≡ walk .count + 1) ⌝ }
+{
+    let count = walk.count + 1;
+    if walk.count == 0 {
+        return Walk {
+            count,
+            first: bucket,
+            second: walk.second,
+            third: walk.third,
+        };
+    }
+    if walk.count == 1 {
+        return Walk {
+            count,
+            first: walk.first,
+            second: bucket,
+            third: walk.third,
+        };
+    }
+    Walk {
+        count,
+        first: walk.first,
+        second: walk.second,
+        third: bucket,
+    }
+}
+
+// Walks a key's route from a client's image until a bucket keeps it or is unsound.
+pub fn walk_route(file: &[u8], header: Header, image: Image, key: u64) -> End
+    requires { ⌜ Known (now file) header × (image .level ≤ 12) × Formed 1 image × NotAhead 1 (stateOf (now file)) image ⌝ }
+    ensures { λ r. ⌜ Walked (now (file .entry)) key (wayOf (now (file .entry)) image key) (r .walk) (r .bucket) (r .sound) × (r .sound ≡ true → r .place ≡ slotOf (regionOf (now (file .entry)) (r .bucket)) key) ⌝ }
+{
+    let state = header.state;
+    let mut bucket = address::address(address::FIRST_BUCKETS, image, key);
+    let mut walk = Walk {
+        count: 0,
+        first: address::NO_BUCKET,
+        second: address::NO_BUCKET,
+        third: address::NO_BUCKET,
+    };
+    loop {
+        walk = note(walk, bucket);
+        let judged = file::judge_bucket(file, header, bucket, key);
+        let level = address::level_of(address::FIRST_BUCKETS, state, bucket);
+        let fate = address::fate_at(address::FIRST_BUCKETS, judged.sound, bucket, level, key);
+        match fate {
+            Fate::Keep => {
+                return End {
+                    sound: true,
+                    bucket,
+                    place: judged.place,
+                    walk,
+                };
+            }
+            Fate::SendOn(next) => {
+                bucket = next;
+            }
+            Fate::Unsound => {
+                return End {
+                    sound: false,
+                    bucket,
+                    place: 0,
+                    walk,
+                };
+            }
+        }
+    }
+}
+
+// A call's start: its refusal before any route, or 0 with the header and the client's image.
+pub struct Opened {
+    pub reply: u8,
+    pub header: Header,
+    pub image: Image,
+}
+
+// A refused start.
+fn not_opened(reply: u8) -> Opened
+    ensures { λ r. ⌜ r .reply ≡ reply ⌝ }
+{
+    let header = file::no_header();
+    let image = Image {
+        level: 0,
+        pointer: 0,
+    };
+    Opened {
+        reply,
+        header,
+        image,
+    }
+}
+
+// Judges table, client, record, header and image in the replies' order: 2, 3, 4, 5, 6, or 0.
+pub fn open(file: &[u8], table: &[u8], client: u64) -> Opened
+    ensures { λ r. ⌜ (r .reply ≡ reply (early (now (file .entry)) (now (table .entry)) client) 0) × (r .reply ≡ 0 → Opening (now (file .entry)) (now (table .entry)) client (r .header) (r .image)) ⌝ }
+{
+    let refused = client::table_refusal(table, client);
+    if refused != 0 {
+        return not_opened(refused);
+    }
+    let record = client::client_of(table, client);
+    if !record.sound {
+        return not_opened(4);
+    }
+    let header = file::header_of(file);
+    if !header.sound {
+        return not_opened(5);
+    }
+    let image = record.image;
+    let state = header.state;
+    if address::buckets(address::FIRST_BUCKETS, state)
+        < address::buckets(address::FIRST_BUCKETS, image)
+    {
+        return not_opened(6);
+    }
+    Opened {
+        reply: 0,
+        header,
+        image,
+    }
+}
