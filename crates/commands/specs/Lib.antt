@@ -1,3 +1,2 @@
--- The definitions that the contracts of `commands` cite, and their laws: bytes by name, and the program's text.
-pub mod Bytes
+-- The definitions that the contracts of `commands` cite, and their laws.
 pub mod Text

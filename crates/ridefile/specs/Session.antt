@@ -11,8 +11,9 @@ use Rattle.client.specs.Table.{join}
 use Rattle.file.specs.File.{create, split}
 use Rattle.ride.specs.Call.{insert, search}
 use Rattle.scan.specs.Scan.{scan}
-use Rattle.commands.specs.Bytes.{lineFeed, letterI, letterS}
-use Rattle.commands.specs.Text.{pieces, commandOf, unknownLine, rideLine, splitLine, scanLine, WroteLine}
+use Rattle.lines.specs.Bytes.{lineFeed, letterI, letterS}
+use Rattle.lines.specs.Lines.{unknownLine, rideLine, splitLine, scanLine, WroteLine}
+use Rattle.commands.specs.Text.{pieces, commandOf}
 use Rattle.commands.specs.declared.Command.{Command}
 use Rattle.commands.specs.declared.Command.the-variants.{Split, Insert, Search, Scan, Unknown}
 

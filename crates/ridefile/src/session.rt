@@ -3,8 +3,9 @@ use commands::Command;
 ghost use mathlib.Core.List.{List};
 ghost use Prim.Native.Nat.{ℕ, _+_, _≤_};
 ghost use lib.ListN.{length};
-ghost use Rattle.commands.specs.Bytes.{lineFeed};
-ghost use Rattle.commands.specs.Text.{Wrote, lineRoom, pieces, commandOf};
+ghost use Rattle.lines.specs.Bytes.{lineFeed};
+ghost use Rattle.lines.specs.Lines.{Wrote, lineRoom};
+ghost use Rattle.commands.specs.Text.{pieces, commandOf};
 ghost use Rattle.commands.specs.declared.Command.the-variants.{Split, Insert, Search, Scan};
 ghost use Rattle.ridefile.specs.Session.{Done, ran, printedFrom, printed, roomFor};
 
@@ -14,7 +15,7 @@ fn run_split(file: &mut [u8], out: &mut [u8], at: usize) -> usize
     ensures { λ r. ⌜ ((table : List ℕ) → Done (lineRoom 2) (ran (now (file .entry)) table Split) (now (file .exit)) table at (now (out .entry)) (now (out .exit)) r) ⌝ }
 {
     let answer = file::split(file);
-    commands::put_split(out, at, answer.reply, answer.old_bucket, answer.new_bucket)
+    lines::put_split(out, at, answer.reply, answer.old_bucket, answer.new_bucket)
 }
 
 // Inserts a ride with a payload of zeros, and writes the line.
@@ -32,7 +33,7 @@ fn run_insert(
     let payload = [0u8; 14];
     let mut answer = [0u8; 24];
     ride::insert(file, table, client, key, &payload, &mut answer);
-    commands::put_ride(out, at, b'I', &answer)
+    lines::put_ride(out, at, b'I', &answer)
 }
 
 // Searches a key, and writes the line.
@@ -49,7 +50,7 @@ fn run_search(
 {
     let mut answer = [0u8; 24];
     ride::search(file, table, client, key, &mut answer);
-    commands::put_ride(out, at, b'S', &answer)
+    lines::put_ride(out, at, b'S', &answer)
 }
 
 // Scans for a lift, and writes the line.
@@ -61,7 +62,7 @@ fn run_scan(file: &[u8], table: &[u8], client: u64, lift: u32, out: &mut [u8], a
     let mut matches = [0u64; 64];
     let answer = scan::scan(file, table, client, lift, &mut visits, &mut matches);
     let count = answer.visits as usize;
-    commands::put_scan(out, at, answer.reply, &visits[..count], answer.matches)
+    lines::put_scan(out, at, answer.reply, &visits[..count], answer.matches)
 }
 
 // Runs the command that a line is, and writes its line.
@@ -75,7 +76,7 @@ fn run_line(line: &[u8], file: &mut [u8], table: &mut [u8], out: &mut [u8], at: 
         Command::Insert(client, key) => run_insert(file, table, client, key, out, at),
         Command::Search(client, key) => run_search(file, table, client, key, out, at),
         Command::Scan(client, lift) => run_scan(file, table, client, lift, out, at),
-        Command::Unknown => commands::put_unknown(out, at),
+        Command::Unknown => lines::put_unknown(out, at),
     }
 }
 
@@ -89,7 +90,7 @@ fn run_lines(input: &[u8], file: &mut [u8], table: &mut [u8], out: &mut [u8]) ->
     while from < input.len() {
         let end = commands::line_end(input, from);
         if end == input.len() {
-            return commands::put_unknown(out, at);
+            return lines::put_unknown(out, at);
         }
         at = run_line(&input[from..end], file, table, out, at);
         from = end + 1;

@@ -9,7 +9,7 @@ use borrow.Author.Tests.{eq-eqb, ne-eqb}
 use lib.Dec.{leb, eqb}
 use lib.ListN.{length, getD, take, drop, length-take, length-drop}
 use lib.Seq.{take-all}
-use Rattle.commands.specs.Bytes.{space, digit0, digit9, letterA, letterG, letterI, letterS}
+use Rattle.lines.specs.Bytes.{space, digit0, digit9, letterA, letterG, letterI, letterS}
 use Rattle.commands.specs.Text.{allDigits, isNumber, numberOf, placeOf, pieces, named, limitAfter, ofNumbers, ofFields, commandOf}
 use Rattle.commands.specs.Text.Pieces.{some-piece, together, together-pieces, place-within, pieces-first, pieces-more, pieces-last}
 use Rattle.commands.specs.Text.Reading.{number-good, number-bad}

@@ -10,7 +10,7 @@ use borrow.Author.Tests.{lt-ltb, le-ltb, le-leb, lt-leb, eq-eqb, ne-eqb, ltb-tru
 use lib.Dec.{ltb}
 use lib.ListN.{length, getD, drop, drop-of-length-le}
 use lib.Seq.{drop-cons}
-use Rattle.commands.specs.Bytes.{digit0, digit9}
+use Rattle.lines.specs.Bytes.{digit0, digit9}
 use Rattle.commands.specs.Text.{allDigits, noSpareZero, spelled, value, isNumber, numberFrom, numberOf}
 use Rattle.commands.specs.declared.Number.the-variants.{Value, Malformed}
 

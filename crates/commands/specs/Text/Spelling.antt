@@ -9,9 +9,11 @@ use native.Mathlib.Decide.{ℕ-discrete}
 use native.Mathlib.Omega.{arith}
 use borrow.Author.Tests.{eq-eqb, ne-eqb}
 use lib.ListN.{length, length-append}
-use Rattle.commands.specs.Bytes.{space, letterG}
-use Rattle.commands.specs.Text.{allDigits, value, isNumber, decimal, longer, pieces, named, limitAfter, ofNumbers, ofFields, commandOf}
-use Rattle.commands.specs.Text.Decimal.{decimal-some, decimal-digits, decimal-number, digit-first, number-spelling}
+use Rattle.lines.specs.Bytes.{space, letterG}
+use Rattle.lines.specs.Lines.{decimal}
+use Rattle.lines.specs.Lines.Decimal.{decimal-some}
+use Rattle.commands.specs.Text.{allDigits, value, isNumber, longer, pieces, named, limitAfter, ofNumbers, ofFields, commandOf}
+use Rattle.commands.specs.Text.Decimal.{decimal-digits, decimal-number, digit-first, number-spelling}
 use Rattle.commands.specs.Text.Fields.{numbers-both, three-fields}
 use Rattle.commands.specs.Text.Pieces.{together, together-pieces}
 use Rattle.commands.specs.declared.Command.the-variants.{Split, Unknown}

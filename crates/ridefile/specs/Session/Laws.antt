@@ -18,9 +18,10 @@ use Rattle.route.specs.Way.{early}
 use Rattle.scan.specs.Scan.{Scanned, scan}
 use Rattle.scan.specs.Scan.Accepted.{scan-refused, scan-visits-count}
 use Rattle.scan.specs.Scan.Replied.{answered, refusal, scan-early, scan-short}
-use Rattle.commands.specs.Bytes.{lineFeed, letterI, letterS}
-use Rattle.commands.specs.Text.{pieces, lineEnd, commandOf, unknownLine, rideLine, splitLine, scanLine, Wrote, WroteLine, lineRoom}
-use Rattle.commands.specs.Text.Edit.{wrote-none, wrote-both}
+use Rattle.lines.specs.Bytes.{lineFeed, letterI, letterS}
+use Rattle.lines.specs.Lines.{unknownLine, rideLine, splitLine, scanLine, Wrote, WroteLine, lineRoom}
+use Rattle.lines.specs.Lines.Edit.{wrote-none, wrote-both}
+use Rattle.commands.specs.Text.{pieces, lineEnd, commandOf}
 use Rattle.commands.specs.Text.Pieces.{pieces-none, some-piece, place-after, pieces-more, pieces-last}
 use Rattle.commands.specs.Text.Spelling.{Spelling, unknown, splits, numbers, one-spelling, spelling-long}
 use Rattle.commands.specs.declared.Command.{Command}

@@ -9,8 +9,8 @@ use Rattle.layout.specs.Bytes.{leAt}
 use Rattle.layout.specs.Bytes.Numbers.{le-two}
 use Rattle.ride.specs.Call.{block}
 use Rattle.ride.specs.Call.Block.{blockBytes, block-bytes}
-use Rattle.commands.specs.Text.{rideLine, answerLine}
-use Rattle.commands.specs.Text.Lines.{ride-route}
+use Rattle.lines.specs.Lines.{rideLine, answerLine}
+use Rattle.lines.specs.Lines.Laws.{ride-route}
 
 module _ (way : List ℕ) (few : length way ≤ 3) where
   abbrev bucket : ℕ → ℕ

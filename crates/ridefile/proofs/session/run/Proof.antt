@@ -2,7 +2,7 @@
 use mathlib.Core.List.{List}
 use mathlib.Core.Path.{subst}
 use Prim.Native.Nat.{ℕ}
-use Rattle.commands.specs.Text.{Wrote}
+use Rattle.lines.specs.Lines.{Wrote}
 use Rattle.ridefile.specs.Session.Laws.{printed-is}
 use borrow.Author.Needs.{needs}
 use Rattle.ridefile.proofs.session.run.Statement.{statement}

@@ -1,8 +1,8 @@
--- `commands::put_byte` stores the byte, which is to write it over what stood there.
-use Rattle.commands.specs.Text.Edit.{wrote-byte}
+-- `lines::put_byte` stores the byte, which is to write it over what stood there.
+use Rattle.lines.specs.Lines.Edit.{wrote-byte}
 use borrow.Author.Needs.{needs}
-use Rattle.commands.proofs.put_byte.Statement.{statement}
-use Rattle.commands.proofs.put_byte.Tie as tie
+use Rattle.lines.proofs.put_byte.Statement.{statement}
+use Rattle.lines.proofs.put_byte.Tie as tie
 
 slice-write-out : tie.Need-slice-write-out
 slice-write-out c = search needs

@@ -1,10 +1,10 @@
--- `commands::put_heading` writes its four parts side by side.
+-- `lines::put_heading` writes its four parts side by side.
 use native.Mathlib.Omega.{arith}
-use Rattle.commands.specs.Text.Edit.{wrote-both}
-use Rattle.commands.specs.Text.Lines.{heading-is, heading-length}
+use Rattle.lines.specs.Lines.Edit.{wrote-both}
+use Rattle.lines.specs.Lines.Laws.{heading-is, heading-length}
 use borrow.Author.Needs.{needs}
-use Rattle.commands.proofs.put_heading.Statement.{statement}
-use Rattle.commands.proofs.put_heading.Tie as tie
+use Rattle.lines.proofs.put_heading.Statement.{statement}
+use Rattle.lines.proofs.put_heading.Tie as tie
 
 put-byte-requires : tie.Need-put-byte-requires
 put-byte-requires c κs =

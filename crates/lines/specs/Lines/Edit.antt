@@ -9,7 +9,7 @@ use lib.ListN.{length, take, drop, set, length-append, take-append-drop}
 use lib.Seq.{set-split, append-snoc}
 use Rattle.layout.specs.Bytes.{edit}
 use Rattle.layout.specs.Bytes.Edit.{edit-is, edit-next, length-edit}
-use Rattle.commands.specs.Text.{Wrote}
+use Rattle.lines.specs.Lines.{Wrote}
 
 pub wrote-byte : (at b : ℕ) (bytes : List ℕ) → at < length bytes → Wrote at (b ∷ []) bytes (set bytes at b) (at + 1)
 wrote-byte at b bytes h = record {

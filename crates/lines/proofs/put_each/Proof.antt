@@ -1,14 +1,14 @@
--- `commands::put_each` writes a separator and a number in each turn: what is written so far is each number passed.
+-- `lines::put_each` writes a separator and a number in each turn: what is written so far is each number passed.
 use lib.Seq.{take-all}
 use Prim.Native.Nat.{_-_, _≤_}
 use native.Mathlib.Omega.{arith}
 use borrow.Author.Needs.{needs}
 use lib.ListN.{length, take}
-use Rattle.commands.specs.Text.{Wrote, eachAfter}
-use Rattle.commands.specs.Text.Edit.{wrote-none, wrote-both, wrote-length}
-use Rattle.commands.specs.Text.Lines.{each-none, each-more, each-room}
-use Rattle.commands.proofs.put_each.Statement.{statement}
-use Rattle.commands.proofs.put_each.Tie as tie
+use Rattle.lines.specs.Lines.{Wrote, eachAfter}
+use Rattle.lines.specs.Lines.Edit.{wrote-none, wrote-both, wrote-length}
+use Rattle.lines.specs.Lines.Laws.{each-none, each-more, each-room}
+use Rattle.lines.proofs.put_each.Statement.{statement}
+use Rattle.lines.proofs.put_each.Tie as tie
 
 abbrev Inv-loop : tie.InvT-loop
 Inv-loop out₀ at separator numbers next₀ i₀ out next i = Wrote at (eachAfter separator (take i numbers)) out₀ out next × (i ≤ length numbers)

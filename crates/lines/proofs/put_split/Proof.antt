@@ -1,10 +1,10 @@
--- `commands::put_split` writes its three parts side by side; they fit since no number of four bytes has more than ten digits.
+-- `lines::put_split` writes its three parts side by side; they fit since no number of four bytes has more than ten digits.
 use native.Mathlib.Omega.{arith}
-use Rattle.commands.specs.Text.Edit.{wrote-both}
-use Rattle.commands.specs.Text.Lines.{heading-short, buckets-short, split-is, split-short}
+use Rattle.lines.specs.Lines.Edit.{wrote-both}
+use Rattle.lines.specs.Lines.Laws.{heading-short, buckets-short, split-is, split-short}
 use borrow.Author.Needs.{needs}
-use Rattle.commands.proofs.put_split.Statement.{statement}
-use Rattle.commands.proofs.put_split.Tie as tie
+use Rattle.lines.proofs.put_split.Statement.{statement}
+use Rattle.lines.proofs.put_split.Tie as tie
 
 put-heading-requires : tie.Need-put-heading-requires
 put-heading-requires c κs =

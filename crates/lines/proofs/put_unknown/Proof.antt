@@ -1,12 +1,12 @@
--- `commands::put_unknown` writes its two bytes side by side.
+-- `lines::put_unknown` writes its two bytes side by side.
 use mathlib.Core.Path.{ap}
 use native.Mathlib.Omega.{arith}
 use lib.ListN.{length}
-use Rattle.commands.specs.Text.Edit.{wrote-both}
-use Rattle.commands.specs.Text.Lines.{unknown-is}
+use Rattle.lines.specs.Lines.Edit.{wrote-both}
+use Rattle.lines.specs.Lines.Laws.{unknown-is}
 use borrow.Author.Needs.{needs}
-use Rattle.commands.proofs.put_unknown.Statement.{statement}
-use Rattle.commands.proofs.put_unknown.Tie as tie
+use Rattle.lines.proofs.put_unknown.Statement.{statement}
+use Rattle.lines.proofs.put_unknown.Tie as tie
 
 put-byte-requires : tie.Need-put-byte-requires
 put-byte-requires c κs = search needs

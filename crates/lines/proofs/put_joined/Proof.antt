@@ -1,12 +1,12 @@
--- `commands::put_joined` goes by the two cases: no number, or a first one and each other after a separator.
+-- `lines::put_joined` goes by the two cases: no number, or a first one and each other after a separator.
 use mathlib.Core.Path.{ap}
 use native.Mathlib.Omega.{arith}
 use lib.ListN.{length}
-use Rattle.commands.specs.Text.Edit.{wrote-both}
-use Rattle.commands.specs.Text.Lines.{joined-none, joined-some, joined-length}
+use Rattle.lines.specs.Lines.Edit.{wrote-both}
+use Rattle.lines.specs.Lines.Laws.{joined-none, joined-some, joined-length}
 use borrow.Author.Needs.{needs}
-use Rattle.commands.proofs.put_joined.Statement.{statement}
-use Rattle.commands.proofs.put_joined.Tie as tie
+use Rattle.lines.proofs.put_joined.Statement.{statement}
+use Rattle.lines.proofs.put_joined.Tie as tie
 
 put-byte-requires : tie.Need-put-byte-requires
 put-byte-requires c κs =

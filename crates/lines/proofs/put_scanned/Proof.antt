@@ -1,12 +1,12 @@
--- `commands::put_scanned` goes by the two cases: refused, or the visits, a space and the count side by side.
+-- `lines::put_scanned` goes by the two cases: refused, or the visits, a space and the count side by side.
 use mathlib.Core.Path.{ap}
 use native.Mathlib.Omega.{arith}
 use lib.ListN.{length}
-use Rattle.commands.specs.Text.Edit.{wrote-both}
-use Rattle.commands.specs.Text.Lines.{scanned-refused, scanned-done, scanned-length}
+use Rattle.lines.specs.Lines.Edit.{wrote-both}
+use Rattle.lines.specs.Lines.Laws.{scanned-refused, scanned-done, scanned-length}
 use borrow.Author.Needs.{needs}
-use Rattle.commands.proofs.put_scanned.Statement.{statement}
-use Rattle.commands.proofs.put_scanned.Tie as tie
+use Rattle.lines.proofs.put_scanned.Statement.{statement}
+use Rattle.lines.proofs.put_scanned.Tie as tie
 
 put-byte-requires : tie.Need-put-byte-requires
 put-byte-requires c κs =

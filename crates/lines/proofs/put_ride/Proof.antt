@@ -1,12 +1,12 @@
--- `commands::put_ride` reads reply, count and buckets from the block and writes the line of their answer.
+-- `lines::put_ride` reads reply, count and buckets from the block and writes the line of their answer.
 use mathlib.Core.Path.{sym}
 use mathlib.Core.List.{[], _∷_}
 use native.Mathlib.Omega.{arith}
 use lib.Seq.{length-take-le}
-use Rattle.commands.specs.Text.Lines.{ride-is}
+use Rattle.lines.specs.Lines.Laws.{ride-is}
 use borrow.Author.Needs.{needs}
-use Rattle.commands.proofs.put_ride.Statement.{statement}
-use Rattle.commands.proofs.put_ride.Tie as tie
+use Rattle.lines.proofs.put_ride.Statement.{statement}
+use Rattle.lines.proofs.put_ride.Tie as tie
 
 read2-requires : tie.Need-read2-requires
 read2-requires c κs = search needs

@@ -1,10 +1,10 @@
--- `commands::put_scan` writes its three parts side by side; they fit since no bucket number has more than five digits.
+-- `lines::put_scan` writes its three parts side by side; they fit since no bucket number has more than five digits.
 use native.Mathlib.Omega.{arith}
-use Rattle.commands.specs.Text.Edit.{wrote-both}
-use Rattle.commands.specs.Text.Lines.{heading-short, scanned-short, scan-is, scan-short}
+use Rattle.lines.specs.Lines.Edit.{wrote-both}
+use Rattle.lines.specs.Lines.Laws.{heading-short, scanned-short, scan-is, scan-short}
 use borrow.Author.Needs.{needs}
-use Rattle.commands.proofs.put_scan.Statement.{statement}
-use Rattle.commands.proofs.put_scan.Tie as tie
+use Rattle.lines.proofs.put_scan.Statement.{statement}
+use Rattle.lines.proofs.put_scan.Tie as tie
 
 put-heading-requires : tie.Need-put-heading-requires
 put-heading-requires c κs =

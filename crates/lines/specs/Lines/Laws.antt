@@ -11,9 +11,9 @@ use borrow.Author.Tests.{eq-eqb, ne-eqb}
 use lib.ListN.{length, getD, take, drop, length-append, take-append-drop}
 use lib.Seq.{take-suc, take-all}
 use Rattle.layout.specs.Bytes.{byteAt, leAt}
-use Rattle.commands.specs.Bytes.{lineFeed, space, comma, dash, greater, question, letterA, letterG}
-use Rattle.commands.specs.Text.{decimal, eachAfter, joined, unknownLine, heading, answerLine, routeIn, rideLine, splitRoute, splitLine, scanned, scanLine, lineRoom}
-use Rattle.commands.specs.Text.Decimal.{decimal-length}
+use Rattle.lines.specs.Bytes.{lineFeed, space, comma, dash, greater, question, letterA, letterG}
+use Rattle.lines.specs.Lines.{decimal, eachAfter, joined, unknownLine, heading, answerLine, routeIn, rideLine, splitRoute, splitLine, scanned, scanLine, lineRoom}
+use Rattle.lines.specs.Lines.Decimal.{decimal-length}
 
 module _ (separator : ℕ) where
   pub each-none : eachAfter separator [] ≡ []

@@ -1,17 +1,17 @@
--- `commands::put_number` writes the digits of x / 10 by a call of itself, and then the last digit: the two cases of `decimal`. The measure is x.
+-- `lines::put_number` writes the digits of x / 10 by a call of itself, and then the last digit: the two cases of `decimal`. The measure is x.
 use Prim.Native.Nat.{ℕ, _<_}
 use native.Mathlib.Omega.{arith}
 use borrow.Author.Needs.{needs}
 use borrow.Fn.Kinds.{In}
 use borrow.Fn.PlainCycle.{Measures, is, falls, and}
-use Rattle.commands.specs.Text.Decimal.{decimal-one, decimal-more, decimal-some, decimal-tail}
-use Rattle.commands.specs.Text.Edit.{wrote-both}
-use Rattle.commands.proofs.put_number.Reads as put-number
-use Rattle.commands.proofs.put_number.Kinds as put-number-kinds
-use Rattle.commands.proofs.+put_number.Lts-put_number as put-number-lts
-use Rattle.commands.proofs.put_byte.Reads as put-byte
-use Rattle.commands.proofs.+put_number.{statement}
-use Rattle.commands.proofs.+put_number.Tie.{close}
+use Rattle.lines.specs.Lines.Decimal.{decimal-one, decimal-more, decimal-some, decimal-tail}
+use Rattle.lines.specs.Lines.Edit.{wrote-both}
+use Rattle.lines.proofs.put_number.Reads as put-number
+use Rattle.lines.proofs.put_number.Kinds as put-number-kinds
+use Rattle.lines.proofs.+put_number.Lts-put_number as put-number-lts
+use Rattle.lines.proofs.put_byte.Reads as put-byte
+use Rattle.lines.proofs.+put_number.{statement}
+use Rattle.lines.proofs.+put_number.Tie.{close}
 
 abbrev μ-put-number : Measures 1 put-number-kinds.ps ℕ
 μ-put-number κs a = a .1 .1 .0

@@ -1,12 +1,12 @@
--- `commands::put_buckets` goes by the two cases: refused, or the two numbers with a separator between them.
+-- `lines::put_buckets` goes by the two cases: refused, or the two numbers with a separator between them.
 use mathlib.Core.Path.{ap}
 use native.Mathlib.Omega.{arith}
 use lib.ListN.{length}
-use Rattle.commands.specs.Text.Edit.{wrote-both}
-use Rattle.commands.specs.Text.Lines.{split-refused, split-done, split-length}
+use Rattle.lines.specs.Lines.Edit.{wrote-both}
+use Rattle.lines.specs.Lines.Laws.{split-refused, split-done, split-length}
 use borrow.Author.Needs.{needs}
-use Rattle.commands.proofs.put_buckets.Statement.{statement}
-use Rattle.commands.proofs.put_buckets.Tie as tie
+use Rattle.lines.proofs.put_buckets.Statement.{statement}
+use Rattle.lines.proofs.put_buckets.Tie as tie
 
 put-byte-requires : tie.Need-put-byte-requires
 put-byte-requires c κs =

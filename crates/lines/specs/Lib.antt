@@ -1,0 +1,3 @@
+-- The definitions that the contracts of `lines` cite, and their laws: bytes by name, and answers as lines.
+pub mod Bytes
+pub mod Lines
