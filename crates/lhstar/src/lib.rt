@@ -1,12 +1,13 @@
 // The calls of the library for C, each with the contract of the crate that has it.
-use file::CheckAnswer;
-use file::SplitAnswer;
 use scan::ScanAnswer;
+use upkeep::CheckAnswer;
+use upkeep::SplitAnswer;
 ghost use mathlib.Core.Path.{_≡_};
 ghost use Rattle.address.specs.Rules.{parent};
 ghost use Rattle.client.specs.Table.{Joined, join};
 ghost use Rattle.file.specs.File.{Checked, Created, Splitted, check, create, split};
-ghost use Rattle.ride.specs.Call.{Outcome, search, insert, forwardsIn};
+ghost use Rattle.answer.specs.Answer.{forwardsIn};
+ghost use Rattle.ride.specs.Call.{Outcome, search, insert};
 ghost use Rattle.scan.specs.Scan.{Scanned, scan};
 ghost use Rattle.lhstar.specs.View.{viewStart, viewLength};
 
@@ -22,7 +23,7 @@ pub struct ViewAnswer {
 pub extern "C" fn lhstar_create(file: &mut [u8], capacity: u64, slots: u64, most: u64) -> u8
     ensures { λ r. ⌜ record { answer = r; file = now (file .exit) } ≡ create (now (file .entry)) capacity slots most ⌝ }
 {
-    file::create(file, capacity, slots, most)
+    upkeep::create(file, capacity, slots, most)
 }
 
 // Joins a client: its image becomes (0, 0), over any old content.
@@ -67,7 +68,7 @@ pub extern "C" fn lhstar_search(
 pub extern "C" fn lhstar_forwards(answer: &[u8]) -> u32
     ensures { λ r. ⌜ r ≡ forwardsIn (now (answer .entry)) ⌝ }
 {
-    ride::forwards(answer)
+    answer::forwards(answer)
 }
 
 // Splits bucket n.
@@ -75,7 +76,7 @@ pub extern "C" fn lhstar_forwards(answer: &[u8]) -> u32
 pub extern "C" fn lhstar_split(file: &mut [u8]) -> SplitAnswer
     ensures { λ r. ⌜ record { answer = r .reply; old = r .«old_bucket»; new = r .«new_bucket»; file = now (file .exit) } ≡ split (now (file .entry)) ⌝ }
 {
-    file::split(file)
+    upkeep::split(file)
 }
 
 // Scans a file for one lift through a client.
@@ -98,7 +99,7 @@ pub extern "C" fn lhstar_scan(
 pub extern "C" fn lhstar_check(file: &[u8]) -> CheckAnswer
     ensures { λ r. ⌜ record { answer = r .reply; bucket = r .bucket } ≡ check (now (file .entry)) ⌝ }
 {
-    file::check(file)
+    upkeep::check(file)
 }
 
 // Where the used slots of a bucket stand in the file.
@@ -106,7 +107,7 @@ pub extern "C" fn lhstar_check(file: &[u8]) -> CheckAnswer
 pub extern "C" fn lhstar_view(file: &[u8], bucket: u64) -> ViewAnswer
     ensures { λ r. ⌜ (r .start ≡ viewStart (now (file .entry)) bucket) × (r .length ≡ viewLength (now (file .entry)) bucket) ⌝ }
 {
-    let length = file::view(file, bucket).len();
+    let length = upkeep::view(file, bucket).len();
     if length == 0 {
         return ViewAnswer {
             start: 0,

@@ -1,32 +1,20 @@
--- Insert and search as document 01 has them: the refusals in their order, the route, the answer block, and what is left of file and table.
+-- Insert and search as document 01 has them: the refusals in their order, and what is left of answer block, table and file.
 pub mod After
-pub mod Block
 pub mod Kept
 pub mod Replied
-use Prim.Native.Nat.{ℕ, suc, _+_, _-_}
+use Prim.Native.Nat.{ℕ, suc}
 use mathlib.Core.Bool.{Bool, cond, not, _&&_}
-use mathlib.Core.List.{List, [], _∷_, _++_}
+use mathlib.Core.List.{List, []}
 use lib.Dec.{ltb, eqb}
-use lib.ListN.{length, getD, replicate}
-use Rattle.address.specs.Limits.{firstBuckets, noBucket}
+use lib.ListN.{length}
+use Rattle.address.specs.Limits.{firstBuckets}
 use Rattle.address.specs.Rules.{imageAfter}
-use Rattle.layout.specs.Bytes.{leBytes}
 use Rattle.layout.specs.Replies.{reply}
 use Rattle.bucket.specs.Region.{countOf, rideAt, slotOf}
 use Rattle.client.specs.Table.{imageOf, withImage}
 use Rattle.file.specs.File.{capacityOf, stateOf, regionOf, bucketSoundIn, withRide}
+use Rattle.answer.specs.Answer.{block, noPayload}
 use Rattle.route.specs.Way.{early, cut, everyOn, wayOf, ownOf, held, full}
-
--- The answer block: byte 0 the reply; byte 1 how many buckets the route has; bytes 2-7 their numbers in order, 65,535 where unused;
--- byte 8 the flag; byte 9 zero; bytes 10-23 the payload a search found, otherwise zero.
-pub entry : List ℕ → ℕ → List ℕ
-entry way k = leBytes 2 (getD way k noBucket)
-
-pub block : ℕ → List ℕ → ℕ → List ℕ → List ℕ
-block r way flag payload = (r ∷ length way ∷ []) ++ entry way 0 ++ entry way 1 ++ entry way 2 ++ (flag ∷ 0 ∷ []) ++ payload
-
-pub noPayload : List ℕ
-noPayload = replicate 14 0
 
 -- What a key call leaves: its reply, the answer block, the client table and the file.
 pub record Outcome : Type 0 where
@@ -80,7 +68,3 @@ placed file table client key payload =
 pub insert : List ℕ → List ℕ → ℕ → ℕ → List ℕ → List ℕ → Outcome
 insert file table client key payload answer =
     routed (eqb (length answer) 24 && eqb (length payload) 14) file table client key answer (placed file table client key payload)
-
--- Forwards are the route's buckets less one, or 0 without a route.
-pub forwardsIn : List ℕ → ℕ
-forwardsIn answer = cond (eqb (length answer) 24) (getD answer 1 0 - 1) 0

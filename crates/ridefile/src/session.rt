@@ -14,7 +14,7 @@ fn run_split(file: &mut [u8], out: &mut [u8], at: usize) -> usize
     requires { ⌜ at + lineRoom 2 ≤ length (now out) ⌝ }
     ensures { λ r. ⌜ ((table : List ℕ) → Done (lineRoom 2) (ran (now (file .entry)) table Split) (now (file .exit)) table at (now (out .entry)) (now (out .exit)) r) ⌝ }
 {
-    let answer = file::split(file);
+    let answer = upkeep::split(file);
     lines::put_split(out, at, answer.reply, answer.old_bucket, answer.new_bucket)
 }
 
@@ -104,7 +104,7 @@ pub fn run(input: &[u8], out: &mut [u8]) -> usize
     ensures { λ r. ⌜ Wrote 0 (printed (now (input .entry))) (now (out .entry)) (now (out .exit)) r ⌝ }
 {
     let mut file = [0u8; 1680];
-    file::create(&mut file, 2, 4, 16);
+    upkeep::create(&mut file, 2, 4, 16);
     let mut table = [0u8; 32];
     client::join(&mut table, 0);
     client::join(&mut table, 1);

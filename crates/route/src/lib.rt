@@ -1,12 +1,16 @@
-// What insert, search and scan begin with: a client's refusals, and a key's route.
+// A client's refusals, a key's route, and the client's image after it.
 use address::Fate;
 use address::Image;
 use file::Header;
 ghost use mathlib.Core.Path.{_≡_};
 ghost use mathlib.Core.Bool.{true};
 ghost use mathlib.Core.List.{_++_, _∷_, []};
-ghost use Prim.Native.Nat.{_+_, _≤_};
-ghost use Rattle.address.specs.Rules.{Formed, NotAhead};
+ghost use Prim.Native.Nat.{_+_, _*_, _≤_, _<_};
+ghost use lib.ListN.{length};
+ghost use lib.Dec.{eqb};
+ghost use Rattle.address.specs.Room.{ImageRoom};
+ghost use Rattle.address.specs.Rules.{Formed, NotAhead, level, adjusted};
+ghost use Rattle.client.specs.Table.{withImage};
 ghost use Rattle.bucket.specs.Region.{slotOf};
 ghost use Rattle.file.specs.File.{stateOf, regionOf};
 ghost use Rattle.file.specs.File.Judge.{Known};
@@ -154,4 +158,15 @@ pub fn open(file: &[u8], table: &[u8], client: u64) -> Opened
         header,
         image,
     }
+}
+
+// Writes a client's image after its first bucket did or did not keep the key.
+pub fn adjust(table: &mut [u8], client: u64, header: Header, image: Image, walk: Walk)
+    requires { ⌜ (8 * client + 8 ≤ length (now table)) × ImageRoom 1 (header .state) × (walk .first ≤ 4096) × (adjusted 1 image (walk .first) (level 1 (header .state) (walk .first)) (eqb (walk .count) 1) .level < 256) × (adjusted 1 image (walk .first) (level 1 (header .state) (walk .first)) (eqb (walk .count) 1) .pointer < 65536) ⌝ }
+    ensures { λ _. ⌜ now (table .exit) ≡ withImage (now (table .entry)) client (adjusted 1 image (walk .first) (level 1 (header .state) (walk .first)) (eqb (walk .count) 1)) ⌝ }
+{
+    let first = walk.first;
+    let level = address::level_of(address::FIRST_BUCKETS, header.state, first);
+    let next = address::adjusted(address::FIRST_BUCKETS, image, first, level, walk.count == 1);
+    client::put_image(table, client, next);
 }

@@ -10,7 +10,7 @@ use Rattle.file.specs.File.Region.{sound-few}
 use Rattle.route.specs.Way.{noted}
 use Rattle.route.specs.Way.Own.{held-is}
 use Rattle.ride.specs.Call.After.{arrived, payload-cut}
-use Rattle.ride.specs.Call.Block.{block-payload}
+use Rattle.answer.specs.Answer.Block.{block-payload}
 use Rattle.ride.specs.Call.Replied.{search-found, search-absent}
 use borrow.Author.Needs.{needs}
 use Rattle.ride.proofs.finish_search.Statement.{statement}

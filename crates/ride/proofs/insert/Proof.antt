@@ -10,11 +10,9 @@ use lib.ListN.{length}
 use Rattle.layout.specs.Bytes.Tests.{and-left, and-right}
 use Rattle.address.specs.declared.Image.{Image}
 use Rattle.file.specs.File.{bucketSoundIn}
-use Rattle.route.specs.declared.Walk.{Walk}
 use Rattle.route.specs.Way.{noted, wayOf, everyOn, cut}
-use Rattle.route.specs.Way.Noted.{noted-none}
 use Rattle.route.specs.Way.Route.{Walked}
-use Rattle.ride.specs.Call.{placed, block, noPayload}
+use Rattle.ride.specs.Call.{placed}
 use Rattle.ride.specs.Call.Replied.{insert-is, routed-block, routed-early, routed-stopped, routed-reached}
 use borrow.Author.Needs.{needs}
 use Rattle.ride.proofs.insert.Statement.{statement}
@@ -28,11 +26,8 @@ returns c =
 open-requires : tie.Need-open-requires
 open-requires c κs = search needs
 
-no-walk-requires : tie.Need-no-walk-requires
-no-walk-requires c κs = search needs
-
-put-block-requires : tie.Need-put-block-requires
-put-block-requires c κs = (eqb-true _ 24 (and-left _ _ (not-false _ (c .before .before .before .before .before .before .if1 .left))), omega (arith, ap (λ (w : Walk). w .count) (c .no-walk .ensures)))
+put-refusal-requires : tie.Need-put-refusal-requires
+put-refusal-requires c κs = eqb-true _ 24 (and-left _ _ (not-false _ (c .before .before .before .before .before .if1 .left)))
 
 same-length : tie.Need-same-length
 same-length c = search needs
@@ -45,25 +40,19 @@ same-length-3 c = search needs
 
 returns-2 : tie.Need-returns-2
 returns-2 c =
-    let a = c .before .before .before .before .before .before .before .before .before .before .before .before .before .before .args in
-    let o = c .before .before .before .before .before .before .«open» in
-    let w = c .before .before .before .no-walk in
-    (λ i. record {
-      answer = o .result .reply;
-      block = (c .before .before .put-block .ensures ∙ ap (λ (l : List ℕ). block (o .result .reply) l 0 noPayload) (noted-none (w .result) (ap (λ (x : Walk). x .count) (w .ensures)))) i;
-      table = a .table .now;
-      file = a .file .now;
-    })
-    ∙ routed-early (a .file .now) (a .table .now) (a .client) (a .key) (a .answer .now) (placed (a .file .now) (a .table .now) (a .client) (a .key) (a .payload .now)) (o .result .reply) (o .ensures .0) (c .before .before .before .before .before .if2 .taken)
-    ∙ insert-is (a .file .now) (a .table .now) (a .client) (a .key) (a .payload .now) (a .answer .now) true (not-false _ (c .before .before .before .before .before .before .before .before .before .if1 .left))
+    let a = c .before .before .before .before .before .before .before .before .before .before .before .before .before .args in
+    let o = c .before .before .before .before .before .«open» in
+    (λ i. record { answer = o .result .reply; block = c .before .before .put-refusal .ensures i; table = a .table .now; file = a .file .now })
+    ∙ routed-early (a .file .now) (a .table .now) (a .client) (a .key) (a .answer .now) (placed (a .file .now) (a .table .now) (a .client) (a .key) (a .payload .now)) (o .result .reply) (o .ensures .0) (c .before .before .before .before .if2 .taken)
+    ∙ insert-is (a .file .now) (a .table .now) (a .client) (a .key) (a .payload .now) (a .answer .now) true (not-false _ (c .before .before .before .before .before .before .before .before .if1 .left))
 
 walk-route-requires : tie.Need-walk-route-requires
 walk-route-requires c κs =
     let g = c .before .before .«open» .ensures .1 (c .before .if2 .left) in
     (g .known, g .low, g .formed, g .behind)
 
-put-block-requires-2 : tie.Need-put-block-requires-2
-put-block-requires-2 c κs = (eqb-true _ 24 (and-left _ _ (not-false _ (c .before .before .before .before .before .before .before .before .before .if1 .left))), c .before .before .before .walk-route .ensures .0 .few)
+put-block-requires : tie.Need-put-block-requires
+put-block-requires c κs = (eqb-true _ 24 (and-left _ _ (not-false _ (c .before .before .before .before .before .before .before .before .before .if1 .left))), c .before .before .before .walk-route .ensures .0 .few)
 
 same-length-4 : tie.Need-same-length-4
 same-length-4 c = search needs
@@ -80,7 +69,7 @@ returns-3 c =
     let o = c .before .before .before .before .before .before .before .before .before .«open» in
     let g = o .ensures .1 (c .before .before .before .before .before .before .before .before .if2 .left) in
     let w = c .before .before .before .before .before .before .walk-route in
-    (λ i. record { answer = 7; block = c .before .before .put-block2 .ensures i; table = a .table .now; file = a .file .now })
+    (λ i. record { answer = 7; block = c .before .before .put-block .ensures i; table = a .table .now; file = a .file .now })
     ∙ routed-stopped (a .file .now) (a .table .now) (a .client) (a .key) (a .answer .now) (placed (a .file .now) (a .table .now) (a .client) (a .key) (a .payload .now)) (sym (o .ensures .0) ∙ c .before .before .before .before .before .before .before .before .if2 .left) (noted (w .result .walk))
     (w .ensures .0 .met ∙ ap (λ (x : Image). cut (bucketSoundIn (a .file .now)) (wayOf (a .file .now) x (a .key))) (g .is))
     (sym (c .before .before .before .before .before .before .walk-route .ensures .0 .sound ∙ ap (λ (x : Image). everyOn (bucketSoundIn (a .file .now)) (wayOf (a .file .now) x (a .key))) (g .is)) ∙ not-true _ (c .before .before .before .before .if3 .taken))
@@ -125,14 +114,13 @@ insert-spec =
     (tie.spec
     returns
     open-requires
-    no-walk-requires
-    put-block-requires
+    put-refusal-requires
     same-length
     same-length-2
     same-length-3
     returns-2
     walk-route-requires
-    put-block-requires-2
+    put-block-requires
     same-length-4
     same-length-5
     same-length-6

@@ -7,11 +7,9 @@ use native.Mathlib.Omega.{arith}
 use borrow.Author.Tests.{not-true, not-false, eq-eqb, ne-eqb}
 use Rattle.address.specs.declared.Image.{Image}
 use Rattle.file.specs.File.{bucketSoundIn}
-use Rattle.route.specs.declared.Walk.{Walk}
 use Rattle.route.specs.Way.{noted, wayOf, everyOn, cut}
-use Rattle.route.specs.Way.Noted.{noted-none}
 use Rattle.route.specs.Way.Route.{Walked}
-use Rattle.ride.specs.Call.{searched, block, noPayload}
+use Rattle.ride.specs.Call.{searched}
 use Rattle.ride.specs.Call.Replied.{search-is, routed-block, routed-early, routed-stopped, routed-reached}
 use borrow.Author.Needs.{needs}
 use Rattle.ride.proofs.search.Statement.{statement}
@@ -25,11 +23,8 @@ returns c =
 open-requires : tie.Need-open-requires
 open-requires c κs = search needs
 
-no-walk-requires : tie.Need-no-walk-requires
-no-walk-requires c κs = search needs
-
-put-block-requires : tie.Need-put-block-requires
-put-block-requires c κs = (c .before .before .before .before .before .if1 .left, omega (arith, ap (λ (w : Walk). w .count) (c .no-walk .ensures)))
+put-refusal-requires : tie.Need-put-refusal-requires
+put-refusal-requires c κs = c .before .before .before .before .if1 .left
 
 same-length : tie.Need-same-length
 same-length c = search needs
@@ -39,25 +34,19 @@ same-length-2 c = search needs
 
 returns-2 : tie.Need-returns-2
 returns-2 c =
-    let a = c .before .before .before .before .before .before .before .before .before .before .before .before .args in
-    let o = c .before .before .before .before .before .before .«open» in
-    let w = c .before .before .before .no-walk in
-    (λ i. record {
-      answer = o .result .reply;
-      block = (c .before .before .put-block .ensures ∙ ap (λ (l : List ℕ). block (o .result .reply) l 0 noPayload) (noted-none (w .result) (ap (λ (x : Walk). x .count) (w .ensures)))) i;
-      table = a .table .now;
-      file = a .file .now;
-    })
-    ∙ routed-early (a .file .now) (a .table .now) (a .client) (a .key) (a .answer .now) (searched (a .file .now) (a .table .now) (a .client) (a .key)) (o .result .reply) (o .ensures .0) (c .before .before .before .before .before .if2 .taken)
-    ∙ search-is (a .file .now) (a .table .now) (a .client) (a .key) (a .answer .now) true (eq-eqb _ 24 (c .before .before .before .before .before .before .before .before .if1 .left))
+    let a = c .before .before .before .before .before .before .before .before .before .before .before .args in
+    let o = c .before .before .before .before .before .«open» in
+    (λ i. record { answer = o .result .reply; block = c .before .before .put-refusal .ensures i; table = a .table .now; file = a .file .now })
+    ∙ routed-early (a .file .now) (a .table .now) (a .client) (a .key) (a .answer .now) (searched (a .file .now) (a .table .now) (a .client) (a .key)) (o .result .reply) (o .ensures .0) (c .before .before .before .before .if2 .taken)
+    ∙ search-is (a .file .now) (a .table .now) (a .client) (a .key) (a .answer .now) true (eq-eqb _ 24 (c .before .before .before .before .before .before .before .if1 .left))
 
 walk-route-requires : tie.Need-walk-route-requires
 walk-route-requires c κs =
     let g = c .before .«open» .ensures .1 (c .if2 .left) in
     (g .known, g .low, g .formed, g .behind)
 
-put-block-requires-2 : tie.Need-put-block-requires-2
-put-block-requires-2 c κs = search needs
+put-block-requires : tie.Need-put-block-requires
+put-block-requires c κs = search needs
 
 same-length-3 : tie.Need-same-length-3
 same-length-3 c = search needs
@@ -71,7 +60,7 @@ returns-3 c =
     let o = c .before .before .before .before .before .before .before .before .«open» in
     let g = o .ensures .1 (c .before .before .before .before .before .before .before .if2 .left) in
     let w = c .before .before .before .before .before .before .walk-route in
-    (λ i. record { answer = 7; block = c .before .before .put-block2 .ensures i; table = a .table .now; file = a .file .now })
+    (λ i. record { answer = 7; block = c .before .before .put-block .ensures i; table = a .table .now; file = a .file .now })
     ∙ routed-stopped (a .file .now) (a .table .now) (a .client) (a .key) (a .answer .now) (searched (a .file .now) (a .table .now) (a .client) (a .key)) (sym (o .ensures .0) ∙ c .before .before .before .before .before .before .before .if2 .left) (noted (w .result .walk))
     (w .ensures .0 .met ∙ ap (λ (x : Image). cut (bucketSoundIn (a .file .now)) (wayOf (a .file .now) x (a .key))) (g .is))
     (sym (c .before .before .before .before .before .before .walk-route .ensures .0 .sound ∙ ap (λ (x : Image). everyOn (bucketSoundIn (a .file .now)) (wayOf (a .file .now) x (a .key))) (g .is)) ∙ not-true _ (c .before .before .before .before .if3 .taken))
@@ -112,13 +101,12 @@ search-spec =
     (tie.spec
     returns
     open-requires
-    no-walk-requires
-    put-block-requires
+    put-refusal-requires
     same-length
     same-length-2
     returns-2
     walk-route-requires
-    put-block-requires-2
+    put-block-requires
     same-length-3
     same-length-4
     returns-3

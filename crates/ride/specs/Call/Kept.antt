@@ -1,17 +1,17 @@
 -- What insert and search keep: insert leaves a sound file sound, both leave a sound table sound, and the image that either writes is
--- read back; a block's forwards are those of its route.
-use Prim.Native.Nat.{ℕ, _-_, _^_, _≤_, _<_}
+-- read back; a call's forwards are at most two.
+use Prim.Native.Nat.{ℕ, _^_, _≤_, _<_}
 use mathlib.Core.Path.{_≡_, refl, sym, ap, _∙_}
 use mathlib.Core.Bool.{Bool, true, false, cond, not, _&&_}
 use mathlib.Core.List.{List, []}
 use native.Mathlib.Omega.{arith}
-use borrow.Author.Tests.{eqb-true, eq-eqb, ltb-false, leb-false}
+use borrow.Author.Tests.{eqb-true, ltb-false, leb-false}
 use lib.Dec.{eqb}
-use lib.ListN.{length, getD}
-use Rattle.address.specs.Limits.{firstBuckets, noBucket}
+use lib.ListN.{length}
+use Rattle.address.specs.Limits.{firstBuckets}
 use Rattle.address.specs.Rules.{address, imageAfter, forwards}
 use Rattle.address.specs.Rules.Address.{address-exists}
-use Rattle.address.specs.Rules.Route.{forwards-is, forwards-short}
+use Rattle.address.specs.Rules.Route.{forwards-short}
 use Rattle.layout.specs.Bytes.{Bytes}
 use Rattle.layout.specs.Bytes.Tests.{and-right}
 use Rattle.layout.specs.Replies.{reply}
@@ -21,12 +21,13 @@ use Rattle.client.specs.Table.{imageOf, tableSound}
 use Rattle.client.specs.Table.Kept.{written-image, table-kept}
 use Rattle.file.specs.File.{slotsOf, stateOf, regionOf, bucketSoundIn, fileSound}
 use Rattle.file.specs.File.Kept.{ride-kept}
+use Rattle.answer.specs.Answer.{block, noPayload, forwardsIn}
+use Rattle.answer.specs.Answer.Block.{forwards-block}
 use Rattle.route.specs.Way.{early, cut, everyOn, wayOf, ownOf, held, full}
 use Rattle.route.specs.Way.Kept.{Passed, passed, existing, formed, believes, near, written-formed, written-low}
 use Rattle.route.specs.Way.Own.{own-is, held-is, full-is}
 use Rattle.route.specs.Way.Route.{way-route}
-use Rattle.ride.specs.Call.{Outcome, block, noPayload, adjustedTable, routed, searched, search, overfull, placed, insert, inserted, forwardsIn}
-use Rattle.ride.specs.Call.Block.{blockBytes, block-bytes}
+use Rattle.ride.specs.Call.{Outcome, adjustedTable, routed, searched, search, overfull, placed, insert, inserted}
 
 module _ (file table : List ℕ) (client key : ℕ) (open-to : Passed file table client) where
   -- the image written is read back, and the table stays sound
@@ -127,15 +128,7 @@ search-table-kept file table client key answer sound =
     go h true = h
     go h false = h
 
--- the forwards of a block are those of its route, and at most two
-pub forwards-block : (r flag : ℕ) (way payload : List ℕ) → length payload ≡ 14 → forwardsIn (block r way flag payload) ≡ forwards way
-unfolding forwardsIn
-forwards-block r flag way payload long = rw (block-bytes r flag way payload)
-    (ap (λ (fits : Bool). cond fits (length way - 1) 0) (eq-eqb (length whole) 24 (omega (arith, long))) ∙ sym (forwards-is way))
-  where
-    whole : List ℕ
-    whole = blockBytes r flag (length way) (getD way 0 noBucket) (getD way 1 noBucket) (getD way 2 noBucket) payload
-
+-- the forwards of a block are at most two
 pub forwards-few : (file table : List ℕ) (client key : ℕ) → Passed file table client → (r flag : ℕ) (payload : List ℕ) → length payload ≡ 14
     → forwardsIn (block r (wayOf file (imageOf table client) key) flag payload) ≤ 2
 forwards-few file table client key open-to r flag payload long =

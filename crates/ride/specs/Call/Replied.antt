@@ -11,8 +11,9 @@ use Rattle.layout.specs.Replies.{reply}
 use Rattle.bucket.specs.Region.{countOf, rideAt, slotOf}
 use Rattle.client.specs.Table.{imageOf}
 use Rattle.file.specs.File.{capacityOf, regionOf, bucketSoundIn, withRide}
+use Rattle.answer.specs.Answer.{block, noPayload}
 use Rattle.route.specs.Way.{early, cut, everyOn, wayOf, ownOf, held, full}
-use Rattle.ride.specs.Call.{Outcome, block, noPayload, adjustedTable, routed, searched, search, placed, insert, inserted, overfull}
+use Rattle.ride.specs.Call.{Outcome, adjustedTable, routed, searched, search, placed, insert, inserted, overfull}
 
 module _ (file table : List ℕ) (client key : ℕ) (answer : List ℕ) (reached : Outcome) where
   pub routed-block : record { answer = 14; block = answer; table = table; file = file } ≡ routed false file table client key answer reached

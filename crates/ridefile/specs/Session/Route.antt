@@ -7,8 +7,8 @@ use lib.ListN.{length, getD, take}
 use Rattle.address.specs.Limits.{noBucket}
 use Rattle.layout.specs.Bytes.{leAt}
 use Rattle.layout.specs.Bytes.Numbers.{le-two}
-use Rattle.ride.specs.Call.{block}
-use Rattle.ride.specs.Call.Block.{blockBytes, block-bytes}
+use Rattle.answer.specs.Answer.{block}
+use Rattle.answer.specs.Answer.Block.{blockBytes, block-bytes}
 use Rattle.lines.specs.Lines.{rideLine, answerLine}
 use Rattle.lines.specs.Lines.Laws.{ride-route}
 

@@ -1,0 +1,35 @@
+-- `upkeep::put_state` writes the level and then the pointer.
+use mathlib.Core.Path.{ap, _∙_}
+use Rattle.layout.specs.Bytes.{edit, leBytes}
+use Rattle.file.specs.File.Write.{state-written}
+use borrow.Author.Needs.{needs}
+use Rattle.upkeep.proofs.put_state.Statement.{statement}
+use Rattle.upkeep.proofs.put_state.Tie as tie
+
+cast-t4 : tie.Need-cast-t4
+cast-t4 c = search needs
+
+slice-aggregate-put : tie.Need-slice-aggregate-put
+slice-aggregate-put c = search needs
+
+put-requires : tie.Need-put-requires
+put-requires c κs = search needs
+
+cast-put2 : tie.Need-cast-put2
+cast-put2 c = search needs
+
+put2-requires : tie.Need-put2-requires
+put2-requires c κs = search needs
+
+same-length : tie.Need-same-length
+same-length c = search needs
+
+returns : tie.Need-returns
+returns c =
+    let a = c .before .before .before .before .before .before .before .before .before .before .before .before .args in
+    c .before .before .put2 .ensures ∙ ap (edit 4 (leBytes 2 (a .state .pointer))) (c .before .before .before .before .before .before .before .put .ensures) ∙ state-written (a .file .now) (a .state)
+
+pub put-state-spec : {M : Type 1} → statement M
+put-state-spec =
+    tie.close
+    (tie.spec cast-t4 slice-aggregate-put put-requires cast-put2 put2-requires same-length returns)
