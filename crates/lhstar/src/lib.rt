@@ -1,7 +1,7 @@
 // The calls of the library for C, each with the contract of the crate that has it.
+use growth::SplitAnswer;
 use scan::ScanAnswer;
 use upkeep::CheckAnswer;
-use upkeep::SplitAnswer;
 ghost use mathlib.Core.Path.{_≡_};
 ghost use Rattle.address.specs.Rules.{parent};
 ghost use Rattle.client.specs.Table.{Joined, join};
@@ -76,7 +76,7 @@ pub extern "C" fn lhstar_forwards(answer: &[u8]) -> u32
 pub extern "C" fn lhstar_split(file: &mut [u8]) -> SplitAnswer
     ensures { λ r. ⌜ record { answer = r .reply; old = r .«old_bucket»; new = r .«new_bucket»; file = now (file .exit) } ≡ split (now (file .entry)) ⌝ }
 {
-    upkeep::split(file)
+    growth::split(file)
 }
 
 // Scans a file for one lift through a client.

@@ -14,7 +14,7 @@ fn run_split(file: &mut [u8], out: &mut [u8], at: usize) -> usize
     requires { ⌜ at + lineRoom 2 ≤ length (now out) ⌝ }
     ensures { λ r. ⌜ ((table : List ℕ) → Done (lineRoom 2) (ran (now (file .entry)) table Split) (now (file .exit)) table at (now (out .entry)) (now (out .exit)) r) ⌝ }
 {
-    let answer = upkeep::split(file);
+    let answer = growth::split(file);
     lines::put_split(out, at, answer.reply, answer.old_bucket, answer.new_bucket)
 }
 

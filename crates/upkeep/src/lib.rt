@@ -1,13 +1,10 @@
-// The calls on a whole file: create, check, view and split.
-use address::Image;
+// The calls on a whole file but the split: create, check and view.
 use file::Header;
 ghost use mathlib.Core.Path.{_≡_};
-ghost use mathlib.Core.Bool.{true};
 ghost use Prim.Native.Nat.{_≤_, _<_};
 ghost use lib.ListN.{length, set};
-ghost use Rattle.address.specs.Rules.{newborn};
 ghost use Rattle.layout.specs.Bytes.{edit, leBytes};
-ghost use Rattle.file.specs.File.{Checked, Created, Splitted, divided, split, fileMark, bucketsOf, mostOf, withState, bucketSoundIn, regionSound, lowestUnsound, check, view, create};
+ghost use Rattle.file.specs.File.{Checked, Created, fileMark, regionSound, lowestUnsound, check, view, create};
 ghost use Rattle.file.specs.File.Judge.{Known};
 
 // A check's reply, and the lowest unsound region with 7.
@@ -118,86 +115,4 @@ pub fn create(file: &mut [u8], capacity: u64, slots: u64, most: u64) -> u8
     let end = 16 + (8 + 24 * slots as usize);
     bucket::renew(&mut file[16..end], slots as u32, 0);
     0
-}
-
-// A split's reply, the old bucket and the new; with 7 the unsound one.
-#[repr(C)]
-pub struct SplitAnswer {
-    pub reply: u32,
-    pub old_bucket: u32,
-    pub new_bucket: u32,
-}
-
-// Writes the state of a file's header.
-fn put_state(file: &mut [u8], state: Image)
-    requires { ⌜ (16 ≤ length (now file)) × (state .level < 256) × (state .pointer < 65536) ⌝ }
-    ensures { λ _. ⌜ now (file .exit) ≡ withState (now (file .entry)) state ⌝ }
-{
-    let level = [state.level as u8];
-    layout::put(file, 2, &level);
-    layout::put2(file, 4, state.pointer as u64);
-}
-
-// Divides bucket n of a file with the new bucket, and lets the state grow.
-fn divide(file: &mut [u8], header: Header, new: u32)
-    requires { ⌜ Known (now file) header × (bucketsOf (now file) < mostOf (now file)) × (new ≡ newborn 1 (header .state)) × (bucketSoundIn (now file) (header .state .pointer) ≡ true) ⌝ }
-    ensures { λ _. ⌜ now (file .exit) ≡ divided (now (file .entry)) ⌝ }
-{
-    let slots = header.slots;
-    let state = header.state;
-    let old = state.pointer;
-    let from = file::start(slots, old);
-    let to = file::start(slots, new);
-    bucket::divide(
-        file,
-        from,
-        to,
-        slots,
-        address::FIRST_BUCKETS,
-        old,
-        state.level + 1,
-    );
-    put_state(file, address::grown(address::FIRST_BUCKETS, state));
-}
-
-// Splits bucket n: 5, 10, 7, or both buckets' numbers.
-pub fn split(file: &mut [u8]) -> SplitAnswer
-    ensures { λ r. ⌜ record { answer = r .reply; old = r .«old_bucket»; new = r .«new_bucket»; file = now (file .exit) } ≡ split (now (file .entry)) ⌝ }
-{
-    let header = file::header_of(file);
-    if !header.sound {
-        return refused_split(5, address::NO_BUCKET);
-    }
-    let state = header.state;
-    if header.most <= address::buckets(address::FIRST_BUCKETS, state) {
-        return refused_split(10, address::NO_BUCKET);
-    }
-    let old = state.pointer;
-    if !file::bucket_sound(file, header, old) {
-        return refused_split(7, old);
-    }
-    let new = address::newborn(address::FIRST_BUCKETS, state);
-    let slots = header.slots;
-    let at = file::start(slots, new);
-    let end = at + (8 + 24 * slots as usize);
-    if !layout::is_zero(&file[at..end]) {
-        return refused_split(7, new);
-    }
-    divide(file, header, new);
-    SplitAnswer {
-        reply: 0,
-        old_bucket: old,
-        new_bucket: new,
-    }
-}
-
-// A refused split's answer.
-fn refused_split(reply: u32, bucket: u32) -> SplitAnswer
-    ensures { λ r. ⌜ (r .reply ≡ reply) × (r .«old_bucket» ≡ bucket) × (r .«new_bucket» ≡ 65535) ⌝ }
-{
-    SplitAnswer {
-        reply,
-        old_bucket: bucket,
-        new_bucket: address::NO_BUCKET,
-    }
 }

@@ -1,10 +1,10 @@
--- `upkeep::put_state` writes the level and then the pointer.
+-- `growth::put_state` writes the level and then the pointer.
 use mathlib.Core.Path.{ap, _∙_}
 use Rattle.layout.specs.Bytes.{edit, leBytes}
 use Rattle.file.specs.File.Write.{state-written}
 use borrow.Author.Needs.{needs}
-use Rattle.upkeep.proofs.put_state.Statement.{statement}
-use Rattle.upkeep.proofs.put_state.Tie as tie
+use Rattle.growth.proofs.put_state.Statement.{statement}
+use Rattle.growth.proofs.put_state.Tie as tie
 
 cast-t4 : tie.Need-cast-t4
 cast-t4 c = search needs

@@ -1,4 +1,4 @@
--- `upkeep::split` judges header, room, bucket n and the new region in turn; what passes is divided.
+-- `growth::split` judges header, room, bucket n and the new region in turn; what passes is divided.
 use Prim.Native.Nat.{_<_}
 use mathlib.Core.Path.{refl, sym, ap, _∙_}
 use native.Mathlib.Omega.{arith}
@@ -9,8 +9,8 @@ use Rattle.file.specs.File.Judge.{known, unknown}
 use Rattle.file.specs.File.Region.{buckets-known, known-cut, known-fits}
 use Rattle.file.specs.File.Split.{number, born, old-exists, new-next, split-header, split-whole, split-unsound, split-dirty, split-done, split-refused}
 use borrow.Author.Needs.{needs}
-use Rattle.upkeep.proofs.split.Statement.{statement}
-use Rattle.upkeep.proofs.split.Tie as tie
+use Rattle.growth.proofs.split.Statement.{statement}
+use Rattle.growth.proofs.split.Tie as tie
 
 header-of-requires : tie.Need-header-of-requires
 header-of-requires c κs = search needs

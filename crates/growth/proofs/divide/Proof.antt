@@ -1,4 +1,4 @@
--- `upkeep::divide` divides the two regions and writes the grown state: the divided file.
+-- `growth::divide` divides the two regions and writes the grown state: the divided file.
 use Prim.Native.Nat.{ℕ, _+_}
 use mathlib.Core.Path.{refl, ap, _∙_}
 use native.Mathlib.Omega.{arith}
@@ -7,8 +7,8 @@ use Rattle.layout.specs.Bytes.{Bytes}
 use Rattle.file.specs.File.{withState}
 use Rattle.file.specs.File.Split.{old-exists, new-next, split-halves, split-written, grown-small}
 use borrow.Author.Needs.{needs}
-use Rattle.upkeep.proofs.divide.Statement.{statement}
-use Rattle.upkeep.proofs.divide.Tie as tie
+use Rattle.growth.proofs.divide.Statement.{statement}
+use Rattle.growth.proofs.divide.Tie as tie
 
 start-requires : tie.Need-start-requires
 start-requires c κs =
