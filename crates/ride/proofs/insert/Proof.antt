@@ -1,9 +1,6 @@
 -- `ride::insert` refuses in the replies' order, walks the route, and finishes at the key's own bucket.
-use Prim.Native.Nat.{ℕ}
 use mathlib.Core.Path.{sym, ap, subst, _∙_}
 use mathlib.Core.Bool.{Bool, true, false}
-use mathlib.Core.List.{List}
-use native.Mathlib.Omega.{arith}
 use borrow.Author.Tests.{not-true, not-false, eqb-true}
 use lib.Dec.{eqb}
 use lib.ListN.{length}

@@ -3,7 +3,7 @@ use mathlib.Core.List.{List}
 use mathlib.Core.Path.{subst}
 use Prim.Native.Nat.{ℕ}
 use Rattle.lines.specs.Lines.{Wrote}
-use Rattle.ridefile.specs.Session.Laws.{printed-is}
+use Rattle.turn.specs.Session.Laws.{printed-is}
 use borrow.Author.Needs.{needs}
 use Rattle.ridefile.proofs.session.run.Statement.{statement}
 use Rattle.ridefile.proofs.session.run.Tie as tie

@@ -4,7 +4,7 @@ use mathlib.Core.Path.{_≡_, refl, _∙_, sym}
 use native.Mathlib.Omega.{arith}
 use borrow.Author.Needs.{needs}
 use lib.ListN.{length}
-use Rattle.ridefile.specs.Session.Laws.{Printing, printing-none, printing-more, printing-cut, printing-done}
+use Rattle.turn.specs.Session.Laws.{Printing, printing-none, printing-more, printing-cut, printing-done}
 use Rattle.ridefile.proofs.session.run_lines.Statement.{statement}
 use Rattle.ridefile.proofs.session.run_lines.Tie as tie
 

@@ -26,7 +26,7 @@ use Rattle.commands.specs.Text.Pieces.{pieces-none, some-piece, place-after, pi
 use Rattle.commands.specs.Text.Spelling.{Spelling, unknown, splits, numbers, one-spelling, spelling-long}
 use Rattle.commands.specs.declared.Command.{Command}
 use Rattle.commands.specs.declared.Command.the-variants.{Split, Insert, Search, Scan, Unknown}
-use Rattle.ridefile.specs.Session.{Done, madeFile, joinedTable, ran, printedFrom, printed, roomFor}
+use Rattle.turn.specs.Session.{Done, madeFile, joinedTable, ran, printedFrom, printed, roomFor}
 
 -- each command, by what its call told and what was written of it
 module _ {at next : ℕ} {entry exit : List ℕ} (file table : List ℕ) where

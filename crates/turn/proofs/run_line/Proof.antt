@@ -1,10 +1,10 @@
--- `ridefile::session::run_line` goes by the command that the line is.
+-- `turn::run_line` goes by the command that the line is.
 use mathlib.Core.Path.{_∙_, sym}
 use native.Mathlib.Omega.{arith}
-use Rattle.ridefile.specs.Session.Laws.{unknown-done, line-room, line-done}
+use Rattle.turn.specs.Session.Laws.{unknown-done, line-room, line-done}
 use borrow.Author.Needs.{needs}
-use Rattle.ridefile.proofs.session.run_line.Statement.{statement}
-use Rattle.ridefile.proofs.session.run_line.Tie as tie
+use Rattle.turn.proofs.run_line.Statement.{statement}
+use Rattle.turn.proofs.run_line.Tie as tie
 
 read-command-requires : tie.Need-read-command-requires
 read-command-requires c κs = search needs

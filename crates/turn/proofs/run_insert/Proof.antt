@@ -1,8 +1,8 @@
--- `ridefile::session::run_insert`: what insert told, and the line of its block.
-use Rattle.ridefile.specs.Session.Laws.{insert-done}
+-- `turn::run_insert`: what insert told, and the line of its block.
+use Rattle.turn.specs.Session.Laws.{insert-done}
 use borrow.Author.Needs.{needs}
-use Rattle.ridefile.proofs.session.run_insert.Statement.{statement}
-use Rattle.ridefile.proofs.session.run_insert.Tie as tie
+use Rattle.turn.proofs.run_insert.Statement.{statement}
+use Rattle.turn.proofs.run_insert.Tie as tie
 
 slice-aggregate-insert : tie.Need-slice-aggregate-insert
 slice-aggregate-insert c = search needs

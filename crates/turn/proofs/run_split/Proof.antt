@@ -1,8 +1,8 @@
--- `ridefile::session::run_split`: what split told, and the line of it.
-use Rattle.ridefile.specs.Session.Laws.{split-done}
+-- `turn::run_split`: what split told, and the line of it.
+use Rattle.turn.specs.Session.Laws.{split-done}
 use borrow.Author.Needs.{needs}
-use Rattle.ridefile.proofs.session.run_split.Statement.{statement}
-use Rattle.ridefile.proofs.session.run_split.Tie as tie
+use Rattle.turn.proofs.run_split.Statement.{statement}
+use Rattle.turn.proofs.run_split.Tie as tie
 
 split-requires : tie.Need-split-requires
 split-requires c κs = search needs

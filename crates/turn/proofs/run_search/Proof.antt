@@ -1,8 +1,8 @@
--- `ridefile::session::run_search`: what search told, and the line of its block.
-use Rattle.ridefile.specs.Session.Laws.{search-done}
+-- `turn::run_search`: what search told, and the line of its block.
+use Rattle.turn.specs.Session.Laws.{search-done}
 use borrow.Author.Needs.{needs}
-use Rattle.ridefile.proofs.session.run_search.Statement.{statement}
-use Rattle.ridefile.proofs.session.run_search.Tie as tie
+use Rattle.turn.proofs.run_search.Statement.{statement}
+use Rattle.turn.proofs.run_search.Tie as tie
 
 slice-aggregate-search : tie.Need-slice-aggregate-search
 slice-aggregate-search c = search needs

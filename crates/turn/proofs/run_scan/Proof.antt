@@ -1,11 +1,11 @@
--- `ridefile::session::run_scan`: what scan told, and the line of it; its visits fit the list.
+-- `turn::run_scan`: what scan told, and the line of it; its visits fit the list.
 use mathlib.Core.Path.{sym}
 use native.Mathlib.Omega.{arith}
 use lib.Seq.{length-take-le}
-use Rattle.ridefile.specs.Session.Laws.{scan-done, visits-few}
+use Rattle.turn.specs.Session.Laws.{scan-done, visits-few}
 use borrow.Author.Needs.{needs}
-use Rattle.ridefile.proofs.session.run_scan.Statement.{statement}
-use Rattle.ridefile.proofs.session.run_scan.Tie as tie
+use Rattle.turn.proofs.run_scan.Statement.{statement}
+use Rattle.turn.proofs.run_scan.Tie as tie
 
 slice-aggregate-scan : tie.Need-slice-aggregate-scan
 slice-aggregate-scan c = search needs

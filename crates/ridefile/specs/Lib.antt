@@ -1,2 +1,0 @@
--- The definitions that the contracts of `ridefile` cite, and their laws.
-pub mod Session
