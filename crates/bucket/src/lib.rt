@@ -1,16 +1,16 @@
 // One bucket's region: judged, searched, a ride placed in it, and its rides divided.
 ghost use mathlib.Core.Path.{_≡_};
-ghost use mathlib.Core.Bool.{_&&_, not, cond, true, false};
+ghost use mathlib.Core.Bool.{not, cond, true, false};
 ghost use Prim.Native.Nat.{ℕ, _+_, _*_, _-_, _≤_, _<_};
 ghost use lib.Dec.{eqb};
 ghost use lib.ListN.{length, replicate};
 ghost use Rattle.address.specs.Room.{Room};
 ghost use Rattle.address.specs.Rules.{keeps};
-ghost use Rattle.layout.specs.Bytes.{leBytes, allBelow, firstFrom, edit, part};
+ghost use Rattle.layout.specs.Bytes.{leBytes, firstFrom, edit, part};
 ghost use mathlib.Core.List.{[]};
-ghost use Rattle.bucket.specs.Region.{slotAt, countOf, slotUsed, keyAt, ridesFrom, ridesOf, keysOf, every, distinct, headSound, soundWith, slotOf, headBytes, slotBytes, encode, kept};
+ghost use Rattle.bucket.specs.Region.{slotAt, countOf, keyAt, ridesOf, headSound, soundWith, slotOf, headBytes, slotBytes, encode, kept};
 ghost use Rattle.bucket.specs.Region.Divide.{Halves, Parted};
-ghost use Rattle.bucket.specs.Region.Single.{Chained, SoughtAt, fingerprint, latestOf};
+ghost use Rattle.bucket.specs.Region.Single.{Chained, SlotsJudged, SoughtAt, fingerprint, latestOf};
 
 // Whether a head is well formed, of the level given and with a count of at most `slots`.
 fn head_sound(region: &[u8], slots: u32, level: u32) -> bool
@@ -64,14 +64,14 @@ fn unsound() -> Judged
     }
 }
 
-// A slot that is found takes the place of another.
-fn found_at(found: bool, slot: usize, place: usize) -> usize
-    ensures { λ r. ⌜ r ≡ cond found slot place ⌝ }
+// One number or another, by a test.
+fn chosen(test: bool, one: usize, other: usize) -> usize
+    ensures { λ r. ⌜ r ≡ cond test one other ⌝ }
 {
-    if found {
-        return slot;
+    if test {
+        return one;
     }
-    place
+    other
 }
 
 // The same as `slots_sound`, each key compared with all before it.
@@ -84,7 +84,7 @@ fn slots_paired(
     key: u64,
 ) -> Judged
     requires { ⌜ Room first level × (slotAt count ≤ length (now region)) × (count ≤ 64) ⌝ }
-    ensures { λ r. ⌜ (r .sound ≡ (allBelow (slotUsed (now (region .entry))) count && every (keeps first bucket level) (keysOf (ridesFrom (now (region .entry)) 0 count)) && distinct (keysOf (ridesFrom (now (region .entry)) 0 count)))) × (r .sound ≡ true → r .place ≡ firstFrom (λ (k : ℕ). eqb (keyAt (now (region .entry)) k) key) count 0) ⌝ }
+    ensures { λ r. ⌜ SlotsJudged (keeps first bucket level) (now (region .entry)) count key (r .sound) (r .place) ⌝ }
 {
     let mut used = true;
     let mut belong = true;
@@ -94,7 +94,7 @@ fn slots_paired(
         let held = key_at(region, k);
         used = used & layout::has_mark(region, 8 + 24 * k, b"LR");
         belong = belong & (address::hash(first, level, held) == bucket);
-        place = found_at(held == key, k, place);
+        place = chosen(held == key, k, place);
         if find(region, k, held) < k {
             return unsound();
         }
@@ -154,7 +154,7 @@ fn slots_chained(
     before: &mut [u8],
 ) -> Judged
     requires { ⌜ Room first level × (slotAt count ≤ length (now region)) × (count ≤ 64) × (now latest ≡ replicate 512 0) × (length (now before) ≡ 64) ⌝ }
-    ensures { λ r. ⌜ (r .sound ≡ (allBelow (slotUsed (now (region .entry))) count && every (keeps first bucket level) (keysOf (ridesFrom (now (region .entry)) 0 count)) && distinct (keysOf (ridesFrom (now (region .entry)) 0 count)))) × (r .sound ≡ true → r .place ≡ firstFrom (λ (k : ℕ). eqb (keyAt (now (region .entry)) k) key) count 0) ⌝ }
+    ensures { λ r. ⌜ SlotsJudged (keeps first bucket level) (now (region .entry)) count key (r .sound) (r .place) ⌝ }
 {
     let mut used = true;
     let mut belong = true;
@@ -184,7 +184,7 @@ fn slots_chained(
 // chained.
 fn slots_sound(region: &[u8], count: usize, first: u32, bucket: u32, level: u32, key: u64) -> Judged
     requires { ⌜ Room first level × (slotAt count ≤ length (now region)) × (count ≤ 64) ⌝ }
-    ensures { λ r. ⌜ (r .sound ≡ (allBelow (slotUsed (now (region .entry))) count && every (keeps first bucket level) (keysOf (ridesFrom (now (region .entry)) 0 count)) && distinct (keysOf (ridesFrom (now (region .entry)) 0 count)))) × (r .sound ≡ true → r .place ≡ firstFrom (λ (k : ℕ). eqb (keyAt (now (region .entry)) k) key) count 0) ⌝ }
+    ensures { λ r. ⌜ SlotsJudged (keeps first bucket level) (now (region .entry)) count key (r .sound) (r .place) ⌝ }
 {
     if count <= 8 {
         return slots_paired(region, count, first, bucket, level, key);
@@ -288,16 +288,6 @@ fn copy_slot(bytes: &mut [u8], from: usize, to: usize)
     layout::put8(bytes, to + 16, z);
 }
 
-// How many rides one ride is that may be left out.
-fn counted(kept: bool) -> usize
-    ensures { λ r. ⌜ (r ≡ cond kept 1 0) × (r ≤ 1) ⌝ }
-{
-    if kept {
-        return 1;
-    }
-    0
-}
-
 // Writes each ride of a bucket behind those that stay and, in a new region, behind those that move, and answers how
 // many stay. Either group grows without a branch.
 fn part_rides(
@@ -321,7 +311,7 @@ fn part_rides(
         let kept = address::hash(first, level, key) == home;
         copy_slot(bytes, at, new + (8 + 24 * (k - stay)));
         copy_slot(bytes, at, old + (8 + 24 * stay));
-        stay = stay + counted(kept);
+        stay = stay + chosen(kept, 1, 0);
         k = k + 1;
     }
     stay

@@ -46,7 +46,7 @@ returns-2 c =
     let a = c .before .before .before .before .before .before .before .before .args in
     let n = c .before .before .before .before .read2 in
     let s = c .before .before .before .slots-sound in
-    (c .unsound2 .ensures ∙ judged-slots (a .slots) (a .level) (keeps (a .first) (a .bucket) (a .level)) (a .region .now) (h .result) (n .result) (h .ensures) (n .ensures .0) (c .before .before .before .before .before .if1 .left) (s .result .sound) (s .ensures .0) (c .before .if2 .taken), λ e. absurd (false≢true (sym (c .unsound2 .ensures) ∙ e)))
+    (c .unsound2 .ensures ∙ judged-slots (a .slots) (a .level) (keeps (a .first) (a .bucket) (a .level)) (a .region .now) (h .result) (n .result) (h .ensures) (n .ensures .0) (c .before .before .before .before .before .if1 .left) (s .result .sound) (s .ensures .tested) (c .before .if2 .taken), λ e. absurd (false≢true (sym (c .unsound2 .ensures) ∙ e)))
 
 mul-rest : tie.Need-mul-rest
 mul-rest c = search needs
@@ -77,8 +77,8 @@ returns-3 c =
     let a = c .before .before .before .before .before .before .before .before .before .args in
     let n = c .before .before .before .before .before .read2 in
     let s = c .before .before .before .before .slots-sound in (
-      judged-rest (a .slots) (a .level) (keeps (a .first) (a .bucket) (a .level)) (a .region .now) (h .result) (n .result) (h .ensures) (n .ensures .0) (c .before .before .before .before .before .before .if1 .left) (s .result .sound) (s .ensures .0) (c .before .before .if2 .left) (c .is-zero .result) (c .is-zero .ensures),
-      λ e. s .ensures .1 (not-false _ (c .before .before .if2 .left)) ∙ ap (λ (m : ℕ). firstFrom (λ i. eqb (keyAt (a .region .now) i) (a .key)) m 0) (n .ensures .0) ∙ slot-is (a .region .now) (a .key),
+      judged-rest (a .slots) (a .level) (keeps (a .first) (a .bucket) (a .level)) (a .region .now) (h .result) (n .result) (h .ensures) (n .ensures .0) (c .before .before .before .before .before .before .if1 .left) (s .result .sound) (s .ensures .tested) (c .before .before .if2 .left) (c .is-zero .result) (c .is-zero .ensures),
+      λ e. s .ensures .found (not-false _ (c .before .before .if2 .left)) ∙ ap (λ (m : ℕ). firstFrom (λ i. eqb (keyAt (a .region .now) i) (a .key)) m 0) (n .ensures .0) ∙ slot-is (a .region .now) (a .key),
     )
 
 pub judge-spec : {M : Type 1} → statement M

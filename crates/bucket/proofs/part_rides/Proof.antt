@@ -1,15 +1,16 @@
 -- `bucket::part_rides`: the rides so far are parted; each turn writes one behind both groups and counts it to one.
 use borrow.Author.Needs.{needs}
-use Prim.Native.Nat.{ℕ, _+_, _*_, _-_}
+use Prim.Native.Nat.{ℕ, _+_, _*_, _-_, _≤_}
 use mathlib.Core.Path.{sym, ap, subst, _∙_}
 use mathlib.Core.Bool.{Bool, cond}
+use native.Mathlib.Omega.{arith}
 use mathlib.Core.List.{List}
 use lib.Dec.{eqb}
 use Rattle.address.specs.Rules.{hash, keeps}
 use Rattle.address.specs.Rules.Cases.{keeps-is}
 use Rattle.layout.specs.Bytes.{edit, part}
 use Rattle.bucket.specs.Region.{slotAt, keyAt}
-use Rattle.bucket.specs.Region.Divide.{Parted, parted-none, parted-key, parted-again, parted-more, parted-done}
+use Rattle.bucket.specs.Region.Divide.{Parted, one-at-most, parted-none, parted-key, parted-again, parted-more, parted-done}
 use Rattle.bucket.proofs.part_rides.Statement.{statement}
 use Rattle.bucket.proofs.part_rides.Tie as tie
 
@@ -69,11 +70,14 @@ add-copy-slot-4 c = search needs
 copy-slot-requires-2 : tie.Need-copy-slot-requires-2 Inv-loop μ-loop
 copy-slot-requires-2 c κs = search needs
 
-counted-requires : tie.Need-counted-requires Inv-loop μ-loop
-counted-requires c κs = search needs
+chosen-requires : tie.Need-chosen-requires Inv-loop μ-loop
+chosen-requires c κs = search needs
 
 add-stay : tie.Need-add-stay Inv-loop μ-loop
-add-stay c = search needs
+add-stay c =
+    let h = c .before .before .before .before .before .before .before .before .before in
+    let few : c .chosen .result ≤ 1 = one-at-most (eqb (h .hash .result) (h .before .before .before .before .before .before .args .home)) _ (c .chosen .ensures) in
+    record { fits = omega arith }
 
 add-k : tie.Need-add-k Inv-loop μ-loop
 add-k c = search needs
@@ -93,12 +97,12 @@ loop-again c =
     let at = a .old + (8 + 24 * l .k) in
     let key = parted-key own (a .bytes .now) (a .slots) (a .old) (a .new) (a .count) (e .pre .1) (l .k) (l .stay) (l .bytes) (l .inv) more (r .read8 .result) (r .read8 .ensures) in
     let again = parted-again own (a .bytes .now) (a .slots) (a .old) (a .new) (a .count) (e .pre .1) (l .k) (l .stay) (l .bytes) (l .inv) more in
-    subst (λ (bytes : List ℕ). Parted own (a .bytes .now) (a .slots) (a .old) (a .new) (a .count) (l .k + 1) (l .stay + c .counted .result) bytes)
+    subst (λ (bytes : List ℕ). Parted own (a .bytes .now) (a .slots) (a .old) (a .new) (a .count) (l .k + 1) (l .stay + c .chosen .result) bytes)
     (sym (c .before .before .before .copy-slot2 .ensures
     ∙ ap (λ (bytes : List ℕ). edit (a .old + (8 + 24 * l .stay)) (part at 24 bytes) bytes) (m .copy-slot .ensures)
     ∙ ap (λ (slot : List ℕ). edit (a .old + (8 + 24 * l .stay)) slot (edit (a .new + (8 + 24 * (l .k - l .stay))) (part at 24 (l .bytes)) (l .bytes))) again))
-    (parted-more own (a .bytes .now) (a .slots) (a .old) (a .new) (a .count) (e .pre .1) (l .k) (l .stay) (l .bytes) (l .inv) more (c .counted .result)
-    (c .counted .ensures .0 ∙ ap (λ (b : Bool). cond b 1 0) (ap (λ (h : ℕ). eqb h (a .home)) (m .before .before .hash .ensures .0 ∙ ap (hash (a .first) (a .level)) key) ∙ sym (keeps-is (a .first) (a .home) (a .level) (keyAt (part (a .old) (slotAt (a .slots)) (a .bytes .now)) (l .k))))))
+    (parted-more own (a .bytes .now) (a .slots) (a .old) (a .new) (a .count) (e .pre .1) (l .k) (l .stay) (l .bytes) (l .inv) more (c .chosen .result)
+    (c .chosen .ensures ∙ ap (λ (b : Bool). cond b 1 0) (ap (λ (h : ℕ). eqb h (a .home)) (m .before .before .hash .ensures .0 ∙ ap (hash (a .first) (a .level)) key) ∙ sym (keeps-is (a .first) (a .home) (a .level) (keyAt (part (a .old) (slotAt (a .slots)) (a .bytes .now)) (l .k))))))
 
 same-length : tie.Need-same-length Inv-loop μ-loop
 same-length c = search needs
@@ -132,7 +136,7 @@ part-rides-spec =
     add-copy-slot-3
     add-copy-slot-4
     copy-slot-requires-2
-    counted-requires
+    chosen-requires
     add-stay
     add-k
     loop-less

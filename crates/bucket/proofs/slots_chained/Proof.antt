@@ -3,16 +3,14 @@
 use borrow.Author.Needs.{needs}
 use Prim.Native.Nat.{ℕ, _-_}
 use mathlib.Core.Path.{_≡_, refl, sym, ap, subst, _∙_}
-use mathlib.Core.Bool.{true, false, _&&_, false≢true}
+use mathlib.Core.Bool.{true, false}
 use mathlib.Core.List.{_∷_, []}
 use native.Mathlib.Omega.{arith}
 use lib.ListN.{length, length-replicate}
 use Rattle.address.specs.Rules.{keeps}
-use Rattle.layout.specs.Bytes.{allBelow}
-use Rattle.layout.specs.Bytes.Tests.{and-none}
-use Rattle.bucket.specs.Region.{slotUsed, keyAt, ridesFrom, keysOf, every}
-use Rattle.bucket.specs.Region.Judge.{Slotted, slots-none, slots-more, slots-done}
-use Rattle.bucket.specs.Region.Single.{fingerprint, SoughtAt, sought-stands, sought-fresh, Chaining, chain-none, chain-start, chain-met, chain-more, chain-whole, chain-done, place-sought, place-done}
+use Rattle.bucket.specs.Region.{keyAt}
+use Rattle.bucket.specs.Region.Judge.{Slotted, slots-none, slots-more}
+use Rattle.bucket.specs.Region.Single.{fingerprint, SoughtAt, sought-stands, sought-fresh, Chaining, chain-none, chain-start, chain-met, chain-more, chain-whole, chain-done, place-sought, slots-double, slots-single}
 use Rattle.bucket.proofs.slots_chained.Statement.{statement}
 use Rattle.bucket.proofs.slots_chained.Tie as tie
 
@@ -81,11 +79,9 @@ returns c =
     let f = c .before .before .before .before .before .fingerprint in
     let held = c .before .before .before .before .before .before .before .before .before .key-at in
     let more = c .before .before .before .before .before .before .before .before .before .before .loop-test .taken in
-    let found = subst (λ (x : ℕ). SoughtAt (a .region .now) x (l .k) (c .before .before .seek .result)) (held .ensures) (c .before .before .seek .ensures) in (
-      c .unsound .ensures ∙ sym (and-none (allBelow (slotUsed (a .region .now)) (a .count) && every (keeps (a .first) (a .bucket) (a .level)) (keysOf (ridesFrom (a .region .now) 0 (a .count)))) _
-          (sym (chain-met (a .region .now) (a .count) (l .k) (l .latest) (l .before) (l .inv .2) more (omega arith) false (sought-stands (a .region .now) (keyAt (a .region .now) (l .k)) (l .k) _ found (c .before .if1 .taken)) refl))),
-      λ e. absurd (false≢true (sym (c .unsound .ensures) ∙ e)),
-    )
+    let found = subst (λ (x : ℕ). SoughtAt (a .region .now) x (l .k) (c .before .before .seek .result)) (held .ensures) (c .before .before .seek .ensures) in
+    slots-double (keeps (a .first) (a .bucket) (a .level)) (a .region .now) (a .count) (a .key) (c .unsound .result .sound) (c .unsound .result .place) (c .unsound .ensures)
+    (chain-met (a .region .now) (a .count) (l .k) (l .latest) (l .before) (l .inv .2) more (omega arith) false (sought-stands (a .region .now) (keyAt (a .region .now) (l .k)) (l .k) _ found (c .before .if1 .taken)) refl)
 
 slice-write-before : tie.Need-slice-write-before Inv-loop μ-loop
 slice-write-before c = search needs
@@ -156,10 +152,10 @@ returns-2 : tie.Need-returns-2 Inv-loop μ-loop
 returns-2 c =
     let a = c .before .before .before .before .before .before .before .before .before .before .args in
     let l = c .before .before .before .before .before .before .loop in
-    let single = chain-done (a .region .now) (a .count) (l .k) (l .latest) (l .before) (l .inv .2) (c .before .before .before .before .before .loop-test .left) in (
-      slots-done (keeps (a .first) (a .bucket) (a .level)) (a .region .now) (a .count) (l .k) (l .used) (l .belong) (l .inv .1) (c .before .before .before .before .before .loop-test .left) _ single,
-      λ e. place-done (a .region .now) (a .key) (a .count) (c .slot-before .result) (place-sought (a .region .now) (a .key) (a .count) (c .before .seek2 .result) (c .slot-before .result) (c .before .seek2 .ensures) (c .slot-before .ensures)) single,
-    )
+    let end = c .before .before .before .before .before .loop-test .left in
+    slots-single (keeps (a .first) (a .bucket) (a .level)) (a .region .now) (a .count) (a .key) (l .k) (l .used) (l .belong) (c .slot-before .result) (l .inv .1) end
+    (chain-done (a .region .now) (a .count) (l .k) (l .latest) (l .before) (l .inv .2) end)
+    (place-sought (a .region .now) (a .key) (a .count) (c .before .seek2 .result) (c .slot-before .result) (c .before .seek2 .ensures) (c .slot-before .ensures))
 
 pub slots-chained-spec : {M : Type 1} → statement M
 slots-chained-spec =

@@ -98,6 +98,10 @@ closed-empty S j region long = closed S j 0 [] region tt (omega arith) (omega ar
 
 -- ---- the rides parted so far
 
+pub one-at-most : (b : Bool) (n : ℕ) → n ≡ cond b 1 0 → n ≤ 1
+one-at-most true n e = omega arith
+one-at-most false n e = omega arith
+
 pub record Parted (own : ℕ → Bool) (entry : List ℕ) (S old new count k stay : ℕ) (now : List ℕ) : Type 0 where
   pub within : k ≤ count
   pub short : stay ≤ k

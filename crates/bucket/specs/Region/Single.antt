@@ -2,7 +2,7 @@
 -- so an equal key before it is met on its chain.
 use Prim.Native.Nat.{ℕ, zero, suc, _+_, _*_, _/_, _%_, _-_, _≤_, _<_}
 use mathlib.Core.Path.{_≡_, refl, sym, ap, subst, _∙_}
-use mathlib.Core.Bool.{Bool, true, false, cond, not, true≢false}
+use mathlib.Core.Bool.{Bool, true, false, cond, not, _&&_, true≢false, false≢true}
 use mathlib.Core.List.{List, []}
 use mathlib.Core.Logic.{_⊎_, inl, inr, ⊎-elim}
 use native.Mathlib.Numerals.{add-one}
@@ -12,11 +12,11 @@ use lib.Dec.{eqb}
 use lib.ListN.{length, getD, set, replicate, length-set, length-replicate, getD-replicate}
 use lib.Seq.{getD-set-same, getD-set-other}
 use Rattle.address.specs.Compare.{below, same}
-use Rattle.layout.specs.Bytes.{firstFrom}
+use Rattle.layout.specs.Bytes.{allBelow, firstFrom}
 use Rattle.layout.specs.Bytes.Tests.{and-none, first-within, first-before, first-passes}
-use Rattle.bucket.specs.Region.{keyAt, ridesFrom, keysOf, every, distinct}
+use Rattle.bucket.specs.Region.{slotUsed, keyAt, ridesFrom, keysOf, every, distinct}
 use Rattle.bucket.specs.Region.Rides.{distinct-append}
-use Rattle.bucket.specs.Region.Judge.{keys-more, fresh-from, stands, distinct-later}
+use Rattle.bucket.specs.Region.Judge.{keys-more, fresh-from, stands, distinct-later, Slotted, slots-done}
 
 -- A number below 512 of a key: its ride and its lift added in 32 bits, and of a product of that the upper nine of the lower 32 bits.
 pub fingerprint : ℕ → ℕ
@@ -310,3 +310,24 @@ place-done region key count place so single = ⊎-elim
 
     meet : place < count → keyAt region place ≡ key → place ≤ first → place ≡ first
     meet l e h = ⊎-elim (λ m. absurd (true≢false (sym (eq-eqb (keyAt region place) key e) ∙ first-before (λ i. eqb (keyAt region i) key) count 0 place (omega arith) m))) (λ m. omega (arith, m, h)) (below place first)
+
+-- ---- what a pass over the slots tells: whether each is marked, each key belongs and none stands twice, and then the slot that holds a key, or the count
+
+pub record SlotsJudged (own : ℕ → Bool) (region : List ℕ) (count key : ℕ) (sound : Bool) (place : ℕ) : Type 0 where
+  pub tested : sound ≡ (allBelow (slotUsed region) count && every own (keysOf (ridesFrom region 0 count)) && distinct (keysOf (ridesFrom region 0 count)))
+  pub found : sound ≡ true → place ≡ firstFrom (λ i. eqb (keyAt region i) key) count 0
+
+module _ (own : ℕ → Bool) (region : List ℕ) (count key : ℕ) where
+  -- a double key makes it false
+  pub slots-double : (sound : Bool) (place : ℕ) → sound ≡ false → false ≡ distinct (keysOf (ridesFrom region 0 count)) → SlotsJudged own region count key sound place
+  slots-double sound place bad double = record {
+    tested = bad ∙ sym (and-none (allBelow (slotUsed region) count && every own (keysOf (ridesFrom region 0 count))) _ (sym double));
+    found = λ e. absurd (false≢true (sym bad ∙ e));
+  }
+
+  pub slots-single : (k : ℕ) (used belong : Bool) (place : ℕ) → Slotted own region count k used belong → count ≤ k → true ≡ distinct (keysOf (ridesFrom region 0 count))
+      → Placed region key count count place → SlotsJudged own region count key (used && belong) place
+  slots-single k used belong place so end single placed = record {
+    tested = slots-done own region count k used belong so end _ single;
+    found = λ e. place-done region key count place placed single;
+  }

@@ -3,13 +3,13 @@ use Prim.Native.Nat.{ℕ, suc, _+_, _-_, _≤_, _<_}
 use mathlib.Core.Path.{_≡_, refl, sym, ap, ap₂, _∙_}
 use mathlib.Core.List.{List, [], _∷_, _++_, append-nil}
 use mathlib.Core.Logic.{by-cases}
-use native.Mathlib.Nat.{add-assoc}
+use native.Mathlib.Nat.{add-assoc, add-zero, zero-add}
 use native.Mathlib.Decide.{decLt}
 use native.Mathlib.Numerals.{add-one}
 use native.Mathlib.Omega.{arith}
 use borrow.Author.Fill.{fill-more}
 use lib.ListN.{length, getD, take, drop, replicate, length-append, length-drop, length-set, set, take-append-drop, List·getD-append, List·getD-eq-default}
-use lib.Seq.{ext-getD, getD-take, getD-drop, getD-append-add, length-take-le, paste, paste-suc, take-length, drop-length, take-append-seam, drop-append-add, take-add, drop-drop, drop-at, drop-cons}
+use lib.Seq.{ext-getD, getD-take, getD-drop, getD-append-add, length-take-le, paste, paste-suc, take-length, drop-length, take-append-seam, drop-append-seam, drop-append-add, take-add, drop-drop, drop-at, drop-cons, set-split, append-snoc}
 use Rattle.layout.specs.Bytes.{Bytes, edit, part}
 
 -- an element of the second of two lists
@@ -268,3 +268,20 @@ part-part s m p n xs inside fits = same-bytes (part p n (part s m xs)) (part (s 
   where
     long : length (part p n (part s m xs)) ≡ n
     long = length-part p n (part s m xs) (omega (arith, length-part s m xs fits))
+
+-- a write of nothing, and of one number before others
+pub edit-nothing : (at : ℕ) (xs : List ℕ) → edit at [] xs ≡ xs
+edit-nothing at xs = edit-is at [] xs ∙ rw (add-zero at, append-nil (take at xs)) (take-append-drop at xs)
+
+pub edit-first : (at y : ℕ) (ys xs : List ℕ) → at + (1 + length ys) ≤ length xs → edit (at + 1) ys (set xs at y) ≡ edit at (y ∷ ys) xs
+edit-first at y ys xs fits = ap (edit (at + 1) ys) one ∙ edit-next at (y ∷ []) ys xs fits
+  where
+    one : set xs at y ≡ edit at (y ∷ []) xs
+    one = set-split xs at y (omega arith) ∙ sym (edit-is at (y ∷ []) xs ∙ rw (add-one at) (append-snoc (take at xs) y (drop (suc at) xs)))
+
+-- a write at a list's start, and what it leaves behind it
+pub front-written : (ys xs : List ℕ) → take (length ys) (edit 0 ys xs) ≡ ys
+front-written ys xs = ap (take (length ys)) (edit-is 0 ys xs) ∙ take-append-seam ys (drop (0 + length ys) xs)
+
+pub rest-left : (ys xs : List ℕ) → drop (length ys) (edit 0 ys xs) ≡ drop (length ys) xs
+rest-left ys xs = ap (drop (length ys)) (edit-is 0 ys xs) ∙ drop-append-seam ys (drop (0 + length ys) xs) ∙ ap (λ (n : ℕ). drop n xs) (zero-add (length ys))

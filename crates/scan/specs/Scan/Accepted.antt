@@ -5,10 +5,8 @@ use mathlib.Core.Path.{_≡_, refl, sym, ap, _∙_}
 use mathlib.Core.Bool.{Bool, true, false, cond}
 use mathlib.Core.List.{List, [], _∷_}
 use mathlib.Core.Logic.{_⊎_, inl, inr, ⊎-elim}
-use native.Mathlib.Nat.{zero-add}
 use native.Mathlib.Omega.{arith}
 use lib.ListN.{length, take, drop}
-use lib.Seq.{take-append-seam, drop-append-seam}
 use Rattle.address.specs.Compare.{below, same}
 use Rattle.address.specs.Limits.{firstBuckets, noBucket}
 use Rattle.address.specs.Rules.{Formed, NotAhead, buckets, lastRound, highest}
@@ -16,7 +14,7 @@ use Rattle.address.specs.Rules.Cases.{buckets-is}
 use Rattle.address.specs.Rules.Address.{address-exists}
 use Rattle.address.specs.Rules.Scan.{times, times-none, times-here, times-there, rounds}
 use Rattle.layout.specs.Bytes.{edit}
-use Rattle.layout.specs.Bytes.Edit.{edit-is}
+use Rattle.layout.specs.Bytes.Edit.{front-written, rest-left}
 use Rattle.layout.specs.Replies.{reply}
 use Rattle.client.specs.Table.{imageOf}
 use Rattle.client.specs.Table.Laws.{record-image}
@@ -30,13 +28,6 @@ use Rattle.scan.specs.Scan.{Scanned, ofLift, keysIn, matchesOn, visitsOf
 use Rattle.scan.specs.Scan.Found.{own, once, elsewhere, held-times, other-times, visited}
 use Rattle.scan.specs.Scan.Replied.{answered, refusal, collected-unsound, collected-short, collected-done, scan-early, scan-short, scan-long}
 use Rattle.scan.specs.Scan.Way.{every-first, every-next, way-length, way-once, way-only}
-
--- a write at a list's start, and what it leaves behind it
-front-written : (ys xs : List ℕ) → take (length ys) (edit 0 ys xs) ≡ ys
-front-written ys xs = ap (take (length ys)) (edit-is 0 ys xs) ∙ take-append-seam ys (drop (0 + length ys) xs)
-
-rest-left : (ys xs : List ℕ) → drop (length ys) (edit 0 ys xs) ≡ drop (length ys) xs
-rest-left ys xs = ap (drop (length ys)) (edit-is 0 ys xs) ∙ drop-append-seam ys (drop (0 + length ys) xs) ∙ ap (λ (n : ℕ). drop n xs) (zero-add (length ys))
 
 -- a test that all pass passes at what stands among them
 every-among : (test : ℕ → Bool) (way : List ℕ) (a : ℕ) → everyOn test way ≡ true → 0 < times a way → test a ≡ true
@@ -221,3 +212,24 @@ module _ (file table : List ℕ) (client lift : ℕ) (visits matches : List ℕ)
 
       pub scan-matches-never : ((a : ℕ) → a < bucketsOf file → times key (keysIn file a) ≡ 0) → times key (take (outcome .matches) (outcome .matchList)) ≡ 0
       scan-matches-never none = in-own ∙ none (own file key) exists
+
+-- a scan answers no more visits than its list has room for
+pub visits-fit : (file table : List ℕ) (client lift : ℕ) (visits matches : List ℕ) → scan file table client lift visits matches .visits ≤ length visits
+visits-fit file table client lift visits matches = ⊎-elim opened
+    (λ some. omega (arith, none (scan-early file table client lift visits matches (refusal (reply (early file table client) 0) noBucket) (reply (early file table client) 0) refl refl some)))
+    (same (reply (early file table client) 0) 0)
+  where
+    none : {r a : ℕ} → answered (refusal r a) visits matches ≡ scan file table client lift visits matches → 0 ≡ scan file table client lift visits matches .visits
+    none e = ap (λ (o : Scanned). o .visits) e
+
+    long : bucketsOf file ≤ length visits → scan file table client lift visits matches .visits ≤ length visits
+    long room = ⊎-elim
+        (λ done. omega (arith, scan-visits-count file table client lift visits matches done))
+        (λ other. omega (arith, scan-refused file table client lift visits matches other .0))
+        (same (scan file table client lift visits matches .answer) 0)
+
+    opened : reply (early file table client) 0 ≡ 0 → scan file table client lift visits matches .visits ≤ length visits
+    opened zero = ⊎-elim
+        (λ short. omega (arith, none (scan-short file table client lift visits matches zero (refusal 11 noBucket) refl short)))
+        (λ room. long room)
+        (below (length visits) (bucketsOf file))

@@ -1,15 +1,12 @@
 -- Writing visits and matches: what is left to write, written over the list as it is now, gives the list that the whole write leaves.
-use Prim.Native.Nat.{ℕ, suc, _+_, _*_, _≤_, _<_}
+use Prim.Native.Nat.{ℕ, _+_, _*_, _≤_, _<_}
 use mathlib.Core.Path.{_≡_, refl, sym, ap, ap₂, _∙_}
 use mathlib.Core.Bool.{true, false}
-use mathlib.Core.List.{List, [], _∷_, _++_, append-nil}
-use native.Mathlib.Nat.{add-zero}
-use native.Mathlib.Numerals.{add-one}
+use mathlib.Core.List.{List, [], _∷_, _++_}
 use native.Mathlib.Omega.{arith}
-use lib.ListN.{length, getD, take, drop, set, length-append, length-set, length-drop, take-append-drop}
-use lib.Seq.{set-split, append-snoc}
+use lib.ListN.{length, getD, drop, set, length-append, length-set, length-drop}
 use Rattle.layout.specs.Bytes.{leAt, edit}
-use Rattle.layout.specs.Bytes.Edit.{edit-is, edit-next, length-edit}
+use Rattle.layout.specs.Bytes.Edit.{edit-next, edit-nothing, edit-first, length-edit}
 use Rattle.layout.specs.Bytes.Numbers.{le-part}
 use Rattle.bucket.specs.Region.{slotAt, countOf}
 use Rattle.bucket.specs.Region.Judge.{key-is}
@@ -22,17 +19,6 @@ use Rattle.route.specs.Way.{everyOn}
 use Rattle.scan.specs.Scan.{ofLift, matching, keysIn, matchesOn}
 use Rattle.scan.specs.Scan.Tally.{match-in, match-out, match-none, matches-first, matches-none}
 use Rattle.scan.specs.Scan.Way.{rest-first, rest-none, every-first, every-next}
-
--- ---- a write of nothing, and of one number before others
-
-edit-nothing : (at : ℕ) (xs : List ℕ) → edit at [] xs ≡ xs
-edit-nothing at xs = edit-is at [] xs ∙ rw (add-zero at, append-nil (take at xs)) (take-append-drop at xs)
-
-edit-first : (at y : ℕ) (ys xs : List ℕ) → at + (1 + length ys) ≤ length xs → edit (at + 1) ys (set xs at y) ≡ edit at (y ∷ ys) xs
-edit-first at y ys xs fits = ap (edit (at + 1) ys) one ∙ edit-next at (y ∷ []) ys xs fits
-  where
-    one : set xs at y ≡ edit at (y ∷ []) xs
-    one = set-split xs at y (omega arith) ∙ sym (edit-is at (y ∷ []) xs ∙ rw (add-one at) (append-snoc (take at xs) y (drop (suc at) xs)))
 
 -- ---- the visits
 

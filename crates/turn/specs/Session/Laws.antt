@@ -2,22 +2,16 @@
 use Prim.Native.Nat.{ℕ, _+_, _-_, _≤_, _<_}
 use mathlib.Core.Path.{_≡_, refl, _∙_, sym, ap, ap₂, subst}
 use mathlib.Core.List.{List, [], _∷_, _++_, append-assoc, append-nil}
-use mathlib.Core.Logic.{by-cases}
-use native.Mathlib.Decide.{decLt, ℕ-discrete}
 use native.Mathlib.Numerals.{add-one}
 use native.Mathlib.Omega.{arith}
 use borrow.Author.Tests.{lt-ltb}
 use lib.ListN.{length, take, drop, replicate, length-drop, drop-of-length-le}
 use lib.Seq.{length-take-le}
-use Rattle.address.specs.Limits.{noBucket}
-use Rattle.layout.specs.Replies.{reply}
 use Rattle.client.specs.Table.{Joined, join}
-use Rattle.file.specs.File.{Created, create, Splitted, split, bucketsOf}
+use Rattle.file.specs.File.{Created, create, Splitted, split}
 use Rattle.ride.specs.Call.{Outcome, insert, search}
-use Rattle.route.specs.Way.{early}
 use Rattle.scan.specs.Scan.{Scanned, scan}
-use Rattle.scan.specs.Scan.Accepted.{scan-refused, scan-visits-count}
-use Rattle.scan.specs.Scan.Replied.{answered, refusal, scan-early, scan-short}
+use Rattle.scan.specs.Scan.Accepted.{visits-fit}
 use Rattle.lines.specs.Bytes.{lineFeed, letterI, letterS}
 use Rattle.lines.specs.Lines.{unknownLine, rideLine, splitLine, scanLine, Wrote, WroteLine, lineRoom}
 use Rattle.lines.specs.Lines.Edit.{wrote-none, wrote-both}
@@ -67,24 +61,6 @@ module _ {at next : ℕ} {entry exit : List ℕ} (file table : List ℕ) where
   pub unknown-done : WroteLine (lineRoom 0) at unknownLine entry exit next → Done (lineRoom 0) (ran file table Unknown) file table at entry exit next
   unfolding ran
   unknown-done w = record { holds = refl; knows = refl; prints = w }
-
--- a scan answers no more visits than its list has room for
-visits-fit : (file table : List ℕ) (client lift : ℕ) (visits matches : List ℕ) → scan file table client lift visits matches .visits ≤ length visits
-visits-fit file table client lift visits matches = by-cases (ℕ-discrete (reply (early file table client) 0) 0) opened
-    (λ some. omega (arith, none (scan-early file table client lift visits matches (refusal (reply (early file table client) 0) noBucket) (reply (early file table client) 0) refl refl some)))
-  where
-    none : {r a : ℕ} → answered (refusal r a) visits matches ≡ scan file table client lift visits matches → 0 ≡ scan file table client lift visits matches .visits
-    none e = ap (λ (o : Scanned). o .visits) e
-
-    long : bucketsOf file ≤ length visits → scan file table client lift visits matches .visits ≤ length visits
-    long room = by-cases (ℕ-discrete (scan file table client lift visits matches .answer) 0)
-        (λ done. omega (arith, scan-visits-count file table client lift visits matches done))
-        (λ other. omega (arith, scan-refused file table client lift visits matches other .0))
-
-    opened : reply (early file table client) 0 ≡ 0 → scan file table client lift visits matches .visits ≤ length visits
-    opened zero = by-cases (decLt (length visits) (bucketsOf file))
-        (λ short. omega (arith, none (scan-short file table client lift visits matches zero (refusal 11 noBucket) refl short)))
-        (λ room. long (omega arith))
 
 pub visits-few : (file table : List ℕ) (client lift : ℕ) (o : Scanned) → o ≡ scan file table client lift (replicate 16 0) (replicate 64 0) → o .visits ≤ 16
 visits-few file table client lift o e =
