@@ -5,7 +5,7 @@ ghost use mathlib.Core.Path.{_≡_};
 ghost use mathlib.Core.Bool.{true, false};
 ghost use Prim.Native.Nat.{_+_, _≤_, _<_};
 ghost use lib.ListN.{length};
-ghost use Rattle.bucket.specs.Region.{Ride, countOf, slotOf};
+ghost use Rattle.bucket.specs.Region.{Ride, countOf, keyAt, slotOf};
 ghost use Rattle.file.specs.File.Judge.{Known};
 ghost use Rattle.file.specs.File.{withRide, figuresFit, stateFits, headerOf, bucketsOf, startOf, regionOf, bucketSoundIn};
 
@@ -140,6 +140,17 @@ pub fn held_in(file: &[u8], header: Header, bucket: u32) -> usize
 {
     let at = start(header.slots, bucket);
     layout::read2(file, at + 4) as usize
+}
+
+// The key in a slot of a sound bucket.
+pub fn key_in(file: &[u8], header: Header, bucket: u32, slot: usize) -> u64
+    requires { ⌜ Known (now file) header × (bucket < bucketsOf (now file)) × (bucketSoundIn (now file) bucket ≡ true) × (slot < countOf (regionOf (now file) bucket)) ⌝ }
+    ensures { λ r. ⌜ r ≡ keyAt (regionOf (now (file .entry)) bucket) slot ⌝ }
+{
+    let slots = header.slots;
+    let at = start(slots, bucket);
+    let end = at + (8 + 24 * slots as usize);
+    bucket::key_at(&file[at..end], slot)
 }
 
 // Places a ride in the first free slot of a sound bucket, and answers the count then held.

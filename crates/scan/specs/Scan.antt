@@ -1,5 +1,6 @@
 -- A scan as document 01 has it: the refusals in their order, the buckets visited, the matching keys, and what is left of both lists.
 pub mod Accepted
+pub mod Bits
 pub mod Fill
 pub mod Found
 pub mod Replied

@@ -3,15 +3,16 @@
 use address::Image;
 use file::Header;
 ghost use mathlib.Core.Path.{_≡_};
-ghost use mathlib.Core.Bool.{true};
-ghost use Prim.Native.Nat.{_+_, _≤_, _<_};
+ghost use mathlib.Core.Bool.{true, cond};
+ghost use Prim.Native.Nat.{_+_, _^_, _≤_, _<_};
 ghost use lib.ListN.{length};
 ghost use Rattle.layout.specs.Bytes.{edit};
-ghost use Rattle.bucket.specs.Region.{countOf};
 ghost use Rattle.file.specs.File.{bucketsOf, regionOf, bucketSoundIn};
 ghost use Rattle.file.specs.File.Judge.{Known};
 ghost use Rattle.route.specs.Way.{everyOn};
-ghost use Rattle.scan.specs.Scan.{Scanned, ofLift, matching, keysIn, matchesOn, visitsOf, collected, scan};
+ghost use Rattle.scan.specs.Scan.{Scanned, ofLift, keysIn, visitsOf, collected, scan};
+ghost use Rattle.scan.specs.Scan.Bits.{bitsOf, selected, selectedOn};
+ghost use Rattle.scan.specs.Scan.Fill.{Fitting};
 ghost use Rattle.scan.specs.Scan.Tally.{Judged};
 ghost use Rattle.scan.specs.Scan.Way.{Ready, Way};
 
@@ -45,28 +46,35 @@ fn of_lift(key: u64, lift: u32) -> bool
     key / 4294967296 == lift as u64
 }
 
-// How many keys of a sound bucket are of a lift.
-fn count_matches(file: &[u8], header: Header, bucket: u32, lift: u32) -> u32
-    requires { ⌜ Known (now file) header × (bucket < bucketsOf (now file)) × (bucketSoundIn (now file) bucket ≡ true) ⌝ }
-    ensures { λ r. ⌜ (r ≡ length (matching lift (keysIn (now (file .entry)) bucket))) × (r ≤ 64) ⌝ }
+// A bit that is set by a test.
+fn bit(test: bool) -> u64
+    ensures { λ r. ⌜ (r ≡ cond test 1 0) × (r ≤ 1) ⌝ }
 {
-    let at = file::start(header.slots, bucket);
-    let count = file::held_in(file, header, bucket);
-    let mut found = 0;
-    let mut k = 0;
-    while k < count {
-        if of_lift(layout::read8(file, at + (10 + 24 * k)), lift) {
-            found = found + 1;
-        }
-        k = k + 1;
+    if test {
+        return 1;
     }
-    found
+    0
 }
 
-// Judges the buckets of a way up to the first unsound one, and counts the matches if there is none.
-fn judge_way(file: &[u8], header: Header, way: &[u16], lift: u32) -> Tally
-    requires { ⌜ Known (now file) header × Way (now file) (now way) ⌝ }
-    ensures { λ r. ⌜ Judged (now (file .entry)) lift (now (way .entry)) (r .sound) (r .bucket) (r .matches) ⌝ }
+// Which keys of a sound bucket are of a lift, a bit for each, the first key's the lowest.
+fn match_bits(file: &[u8], header: Header, bucket: u32, lift: u32) -> u64
+    requires { ⌜ Known (now file) header × (bucket < bucketsOf (now file)) × (bucketSoundIn (now file) bucket ≡ true) ⌝ }
+    ensures { λ r. ⌜ r ≡ bitsOf lift (keysIn (now (file .entry)) bucket) ⌝ }
+{
+    let mut bits = 0;
+    let mut k = file::held_in(file, header, bucket);
+    while k != 0 {
+        k = k - 1;
+        bits = bits * 2 + bit(of_lift(file::key_in(file, header, bucket, k), lift));
+    }
+    bits
+}
+
+// Judges the buckets of a way up to the first unsound one, notes which keys of each match, and counts the matches if all are
+// sound.
+fn judge_way(file: &[u8], header: Header, way: &[u16], lift: u32, bits: &mut [u64]) -> Tally
+    requires { ⌜ Known (now file) header × Way (now file) (now way) × (length (now way) ≤ length (now bits)) ⌝ }
+    ensures { λ r. ⌜ Judged (now (file .entry)) lift (now (way .entry)) (r .sound) (r .bucket) (r .matches) (now (bits .exit)) ⌝ }
 {
     let mut matches = 0;
     let mut k = 0;
@@ -79,7 +87,9 @@ fn judge_way(file: &[u8], header: Header, way: &[u16], lift: u32) -> Tally
                 matches: 0,
             };
         }
-        matches = matches + count_matches(file, header, bucket, lift);
+        let matching = match_bits(file, header, bucket, lift);
+        bits[k] = matching;
+        matches = matches + u64::count_ones(matching);
         k = k + 1;
     }
     Tally {
@@ -101,42 +111,41 @@ fn put_visits(way: &[u16], visits: &mut [u16])
     }
 }
 
-// Writes the matching keys of a sound bucket from a place on, and answers the place behind them.
+// Writes the keys of a sound bucket whose bit is set from a place on, and answers the place behind them.
 fn put_bucket(
     file: &[u8],
     header: Header,
     bucket: u32,
-    lift: u32,
+    bits: u64,
     matches: &mut [u64],
     from: usize,
 ) -> usize
-    requires { ⌜ Known (now file) header × (bucket < bucketsOf (now file)) × (bucketSoundIn (now file) bucket ≡ true) × (from + length (matching lift (keysIn (now file) bucket)) ≤ length (now matches)) ⌝ }
-    ensures { λ r. ⌜ (r ≡ from + length (matching lift (keysIn (now (file .entry)) bucket))) × (now (matches .exit) ≡ edit from (matching lift (keysIn (now (file .entry)) bucket)) (now (matches .entry))) ⌝ }
+    requires { ⌜ Known (now file) header × (bucket < bucketsOf (now file)) × (bucketSoundIn (now file) bucket ≡ true) × (bits < 2 ^ length (keysIn (now file) bucket)) × (from + length (selected bits (keysIn (now file) bucket)) ≤ length (now matches)) ⌝ }
+    ensures { λ r. ⌜ (r ≡ from + length (selected bits (keysIn (now (file .entry)) bucket))) × (now (matches .exit) ≡ edit from (selected bits (keysIn (now (file .entry)) bucket)) (now (matches .entry))) ⌝ }
 {
-    let at = file::start(header.slots, bucket);
-    let count = file::held_in(file, header, bucket);
+    let mut left = bits;
+    let mut slot = 0;
     let mut filled = from;
-    let mut k = 0;
-    while k < count {
-        let key = layout::read8(file, at + (10 + 24 * k));
-        if of_lift(key, lift) {
-            matches[filled] = key;
-            filled = filled + 1;
-        }
-        k = k + 1;
+    while left != 0 {
+        let zeros = u64::trailing_zeros(left);
+        let found = slot + zeros as usize;
+        matches[filled] = file::key_in(file, header, bucket, found);
+        left = (left >> zeros) / 2;
+        slot = found + 1;
+        filled = filled + 1;
     }
     filled
 }
 
-// Writes the matching keys of a way of sound buckets.
-fn put_matches(file: &[u8], header: Header, way: &[u16], lift: u32, matches: &mut [u64])
-    requires { ⌜ Known (now file) header × Way (now file) (now way) × (everyOn (bucketSoundIn (now file)) (now way) ≡ true) × (length (matchesOn (now file) lift (now way)) ≤ length (now matches)) ⌝ }
-    ensures { λ _. ⌜ now (matches .exit) ≡ edit 0 (matchesOn (now (file .entry)) lift (now (way .entry))) (now (matches .entry)) ⌝ }
+// Writes the keys of a way of sound buckets whose bits are set.
+fn put_matches(file: &[u8], header: Header, way: &[u16], bits: &[u64], matches: &mut [u64])
+    requires { ⌜ Known (now file) header × Way (now file) (now way) × (everyOn (bucketSoundIn (now file)) (now way) ≡ true) × Fitting (now file) (now way) (now bits) × (length (selectedOn (now file) (now way) (now bits)) ≤ length (now matches)) ⌝ }
+    ensures { λ _. ⌜ now (matches .exit) ≡ edit 0 (selectedOn (now (file .entry)) (now (way .entry)) (now (bits .entry))) (now (matches .entry)) ⌝ }
 {
     let mut filled = 0;
     let mut k = 0;
     while k < way.len() {
-        filled = put_bucket(file, header, number(way[k]), lift, matches, filled);
+        filled = put_bucket(file, header, number(way[k]), bits[k], matches, filled);
         k = k + 1;
     }
 }
@@ -153,19 +162,20 @@ fn refused_scan(reply: u32, bucket: u32) -> ScanAnswer
     }
 }
 
-// Scans the buckets of a way: 7, 12, else both lists are written.
+// Scans the buckets of a way, with room to note which keys match: 7, 12, else both lists are written.
 fn collect(
     file: &[u8],
     header: Header,
     way: &[u16],
     lift: u32,
+    bits: &mut [u64],
     visits: &mut [u16],
     matches: &mut [u64],
 ) -> ScanAnswer
-    requires { ⌜ Known (now file) header × Way (now file) (now way) × (length (now way) ≤ length (now visits)) ⌝ }
+    requires { ⌜ Known (now file) header × Way (now file) (now way) × (length (now way) ≤ length (now bits)) × (length (now way) ≤ length (now visits)) ⌝ }
     ensures { λ r. ⌜ record { answer = r .reply; bucket = r .bucket; visits = r .visits; matches = r .matches; visitList = now (visits .exit); matchList = now (matches .exit) } ≡ collected (now (file .entry)) lift (now (way .entry)) (now (visits .entry)) (now (matches .entry)) ⌝ }
 {
-    let found = judge_way(file, header, way, lift);
+    let found = judge_way(file, header, way, lift, bits);
     if !found.sound {
         return refused_scan(7, found.bucket);
     }
@@ -173,7 +183,7 @@ fn collect(
         return refused_scan(12, address::NO_BUCKET);
     }
     put_visits(way, visits);
-    put_matches(file, header, way, lift, matches);
+    put_matches(file, header, way, bits, matches);
     ScanAnswer {
         reply: 0,
         bucket: address::NO_BUCKET,
@@ -189,20 +199,21 @@ fn follow(
     image: Image,
     order: &mut [u16],
     lift: u32,
+    bits: &mut [u64],
     visits: &mut [u16],
     matches: &mut [u64],
 ) -> ScanAnswer
-    requires { ⌜ Ready (now file) header image × (bucketsOf (now file) ≤ length (now order)) × (bucketsOf (now file) ≤ length (now visits)) ⌝ }
+    requires { ⌜ Ready (now file) header image × (bucketsOf (now file) ≤ length (now order)) × (bucketsOf (now file) ≤ length (now bits)) × (bucketsOf (now file) ≤ length (now visits)) ⌝ }
     ensures { λ r. ⌜ record { answer = r .reply; bucket = r .bucket; visits = r .visits; matches = r .matches; visitList = now (visits .exit); matchList = now (matches .exit) } ≡ collected (now (file .entry)) lift (visitsOf (now (file .entry)) image) (now (visits .entry)) (now (matches .entry)) ⌝ }
 {
     let state = header.state;
     let buckets = address::buckets(address::FIRST_BUCKETS, state) as usize;
     order::visit_order(state, image, order);
-    collect(file, header, &order[..buckets], lift, visits, matches)
+    collect(file, header, &order[..buckets], lift, bits, visits, matches)
 }
 
 // Scans a file for one lift through a client: 2 to 6, 11, 7, 12, else 0. The order of a file of few buckets
-// goes into a short list, which is cleared sooner.
+// and the bits of their matches go into short lists, which are cleared sooner.
 pub fn scan(
     file: &[u8],
     table: &[u8],
@@ -225,8 +236,28 @@ pub fn scan(
     }
     if buckets <= 256 {
         let mut few = [0u16; 256];
-        return follow(file, header, image, &mut few, lift, visits, matches);
+        let mut few_bits = [0u64; 256];
+        return follow(
+            file,
+            header,
+            image,
+            &mut few,
+            lift,
+            &mut few_bits,
+            visits,
+            matches,
+        );
     }
     let mut order = [0u16; 4096];
-    follow(file, header, image, &mut order, lift, visits, matches)
+    let mut bits = [0u64; 4096];
+    follow(
+        file,
+        header,
+        image,
+        &mut order,
+        lift,
+        &mut bits,
+        visits,
+        matches,
+    )
 }

@@ -17,30 +17,30 @@ cast-buckets c = search needs
 
 visit-order-requires : tie.Need-visit-order-requires
 visit-order-requires c κs =
-    let given = c .before .before .before .before .before .before .before .pre .0 in
-    (ready-scannable given, omega (arith, c .before .before .before .before .before .before .before .pre .1, ready-buckets given (c .before .buckets .result) (c .before .buckets .ensures), c .before .buckets .ensures))
+    let d = c .before .before .before .before .before .before .before .before in
+    (ready-scannable (d .pre .0), omega (arith, d .pre .1, ready-buckets (d .pre .0) (c .before .buckets .result) (c .before .buckets .ensures), c .before .buckets .ensures))
 
 slice-reshare-prefix-collect : tie.Need-slice-reshare-prefix-collect
 slice-reshare-prefix-collect c =
+    let d = c .before .before .before .before .before .before .before .before .before .before .before in
     let b = c .before .before .before .before .buckets in
-    omega (arith, c .before .before .visit-order .kept, c .before .before .before .before .before .before .before .before .before .before .pre .1, ready-buckets (c .before .before .before .before .before .before .before .before .before .before .pre .0) (b .result) (b .ensures))
+    omega (arith, c .before .before .visit-order .kept, d .pre .1, ready-buckets (d .pre .0) (b .result) (b .ensures))
 
 slice-aggregate-collect : tie.Need-slice-aggregate-collect
 slice-aggregate-collect c =
-    let given = c .before .before .before .before .before .before .before .before .before .before .before .pre .0 in
+    let given = c .before .before .before .before .before .before .before .before .before .before .before .before .pre .0 in
     let b = c .before .before .before .before .before .buckets in
     let v = c .before .before .before .visit-order in
     ready-buckets given (b .result) (b .ensures) ∙ sym (ready-length given (v .last .1 .1 .0) (b .result) (b .ensures) (v .ensures))
 
 collect-requires : tie.Need-collect-requires
 collect-requires c κs =
-    let given = c .before .before .before .before .before .before .before .before .before .before .before .before .before .pre .0 in
-    let b = c .before .before .before .before .before .before .before .buckets in
-    let v = c .before .before .before .before .before .visit-order in (
-      given .known,
-      ready-way given (v .last .1 .1 .0) (b .result) (b .ensures) (v .ensures),
-      omega (arith, c .before .before .before .before .before .before .before .before .before .before .before .before .before .pre .2, ready-length given (v .last .1 .1 .0) (b .result) (b .ensures) (v .ensures)),
-    )
+    let d = c .before .before .before .before .before .before .before .before .before .before .before .before .before .before .before in
+    let given = d .pre .0 in
+    let b = c .before .before .before .before .before .before .before .before .buckets in
+    let v = c .before .before .before .before .before .before .visit-order in
+    let all = ready-length given (v .last .1 .1 .0) (b .result) (b .ensures) (v .ensures) in
+    (given .known, ready-way given (v .last .1 .1 .0) (b .result) (b .ensures) (v .ensures), omega (arith, d .pre .2, all), omega (arith, d .pre .3, all))
 
 same-length : tie.Need-same-length
 same-length c = search needs
@@ -51,14 +51,18 @@ same-length-2 c = search needs
 same-length-3 : tie.Need-same-length-3
 same-length-3 c = search needs
 
+same-length-4 : tie.Need-same-length-4
+same-length-4 c = search needs
+
 returns : tie.Need-returns
 returns c =
-    let a = c .before .before .before .before .before .before .before .before .before .before .before .before .before .before .before .before .before .before .args in
-    let b = c .before .before .before .before .before .before .before .before .before .before .before .before .buckets in
-    let v = c .before .before .before .before .before .before .before .before .before .before .visit-order in
-    let r = c .before .before .before .before .collect in
-    collected-along (a .file .now) (a .lift) (a .visits .now) (a .matches .now) (answered (r .result) (r .last .1 .1 .1 .1 .0) (r .last .1 .1 .1 .1 .1 .0)) (take (b .result) (v .last .1 .1 .0)) (visitsOf (a .file .now) (a .image)) (r .ensures)
-    (ready-visits (c .before .before .before .before .before .before .before .before .before .before .before .before .before .before .before .before .before .before .pre .0) (v .last .1 .1 .0) (b .result) (b .ensures) (v .ensures))
+    let d = c .before .before .before .before .before .before .before .before .before .before .before .before .before .before .before .before .before .before .before .before .before .before in
+    let a = d .args in
+    let b = c .before .before .before .before .before .before .before .before .before .before .before .before .before .before .before .buckets in
+    let v = c .before .before .before .before .before .before .before .before .before .before .before .before .before .visit-order in
+    let r = c .before .before .before .before .before .before .collect in
+    collected-along (a .file .now) (a .lift) (a .visits .now) (a .matches .now) (answered (r .result) (r .last .1 .1 .1 .1 .1 .0) (r .last .1 .1 .1 .1 .1 .1 .0)) (take (b .result) (v .last .1 .1 .0)) (visitsOf (a .file .now) (a .image)) (r .ensures)
+    (ready-visits (d .pre .0) (v .last .1 .1 .0) (b .result) (b .ensures) (v .ensures))
 
 pub follow-spec : {M : Type 1} → statement M
 follow-spec =
@@ -73,4 +77,5 @@ follow-spec =
     same-length
     same-length-2
     same-length-3
+    same-length-4
     returns)

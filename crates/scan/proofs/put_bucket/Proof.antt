@@ -1,98 +1,97 @@
--- `scan::put_bucket`: the matches of the slots read so far are written; those that are left, written behind them, make the whole.
+-- `scan::put_bucket`: the selected keys before a slot are written; those that are left, written behind them, make the whole.
 use borrow.Author.Needs.{needs}
-use Prim.Native.Nat.{_<_, _-_}
-use mathlib.Core.Logic.{⊎-elim}
-use mathlib.Core.Path.{_≡_, sym, _∙_}
+use Prim.Native.Nat.{_+_, _-_, _<_}
+use mathlib.Core.Path.{_∙_}
 use native.Mathlib.Omega.{arith}
-use lib.ListN.{length, getD}
+use lib.Count.{trailingZeros}
+use lib.ListN.{length}
 use Rattle.bucket.specs.Region.{countOf}
 use Rattle.file.specs.File.{regionOf}
 use Rattle.scan.specs.Scan.{keysIn}
-use Rattle.scan.specs.Scan.Fill.{Filled, key-fits, key-read, fill-none, fill-fits, fill-in, fill-out, fill-done}
-use Rattle.scan.specs.Scan.Tally.{keys-in-count}
+use Rattle.scan.specs.Scan.Fill.{Filled, fill-none, fill-within, fill-fits, fill-more, fill-done}
+use Rattle.scan.specs.Scan.Tally.{keys-in-count, keys-few, key-of}
 use Rattle.scan.proofs.put_bucket.Statement.{statement}
 use Rattle.scan.proofs.put_bucket.Tie as tie
 
 abbrev Inv-loop : tie.InvT-loop
-Inv-loop file bucket lift matches₀ from at count filled₀ k₀ matches filled k = Filled lift (keysIn file bucket) from matches₀ k filled matches
+Inv-loop file header bucket bits matches₀ from left₀ slot₀ filled₀ matches left slot filled = Filled (keysIn file bucket) bits from matches₀ left slot filled matches
 
 abbrev μ-loop : tie.MeasureT-loop
-μ-loop file bucket lift matches₀ from at count filled₀ k₀ matches filled k = count - k
-
-start-requires : tie.Need-start-requires Inv-loop μ-loop
-start-requires c κs = search needs
-
-held-in-requires : tie.Need-held-in-requires Inv-loop μ-loop
-held-in-requires c κs = search needs
+μ-loop file header bucket bits matches₀ from left₀ slot₀ filled₀ matches left slot filled = length (keysIn file bucket) - slot
 
 loop-holds : tie.Need-loop-holds Inv-loop μ-loop
 loop-holds c =
-    let a = c .before .before .before .before .args in
-    fill-none (a .lift) (keysIn (a .file .now) (a .bucket)) (a .from) (a .matches .now)
+    let d = c .before .before in
+    let a = d .args in
+    fill-none (keysIn (a .file .now) (a .bucket)) (a .bits) (a .from) (a .matches .now) (d .pre .3)
 
-mul-read8 : tie.Need-mul-read8 Inv-loop μ-loop
-mul-read8 c = search needs
+cast-found : tie.Need-cast-found Inv-loop μ-loop
+cast-found c =
+    let d = c .before .before .before .before in
+    let short = keys-few (d .pre .0) (d .args .bucket) (d .pre .2) in
+    omega (arith, short, fill-within (c .before .loop .inv) short (c .loop-test .taken))
 
-add-read8 : tie.Need-add-read8 Inv-loop μ-loop
-add-read8 c = search needs
+add-found : tie.Need-add-found Inv-loop μ-loop
+add-found c =
+    let d = c .before .before .before .before in
+    let short = keys-few (d .pre .0) (d .args .bucket) (d .pre .2) in
+    record { fits = omega (arith, short, fill-within (c .before .loop .inv) short (c .loop-test .taken)) }
 
-add-read8-2 : tie.Need-add-read8-2 Inv-loop μ-loop
-add-read8-2 c = search needs
-
-read8-requires : tie.Need-read8-requires Inv-loop μ-loop
-read8-requires c κs =
-    let pre = c .before .before .before .before .before .before .pre in
-    let s = c .before .before .before .start in
-    key-fits (pre .0) (c .before .before .before .before .before .before .args .bucket) (s .result) (s .ensures .0) (pre .1) (pre .2) (c .before .loop .k) (omega (arith, c .before .before .held-in .ensures .0))
-
-of-lift-requires : tie.Need-of-lift-requires Inv-loop μ-loop
-of-lift-requires c κs = search needs
+key-in-requires : tie.Need-key-in-requires Inv-loop μ-loop
+key-in-requires c κs =
+    let d = c .before .before .before .before in
+    let within = fill-within (c .before .loop .inv) (keys-few (d .pre .0) (d .args .bucket) (d .pre .2)) (c .loop-test .taken) in
+    (d .pre .0, d .pre .1, d .pre .2, omega (arith, within, keys-in-count (d .args .file .now) (d .args .bucket)))
 
 mul-matches : tie.Need-mul-matches Inv-loop μ-loop
 mul-matches c = search needs
 
 slice-write-matches : tie.Need-slice-write-matches Inv-loop μ-loop
 slice-write-matches c =
-    let a = c .before .before .before .before .before .before .before .before .before .args in
-    let pre = c .before .before .before .before .before .before .before .before .before .pre in
-    let l = c .before .before .before .before .loop in
-    let s = c .before .before .before .before .before .before .start in
-    let r = c .before .before .read8 in
-    let used : l .k < countOf (regionOf (a .file .now) (a .bucket)) = omega (arith, c .before .before .before .before .before .held-in .ensures .0) in
-    fill-fits (l .inv) (pre .3) (r .result) (r .ensures ∙ key-read (pre .0) (a .bucket) (s .result) (s .ensures .0) (pre .1) (pre .2) (l .k) used)
-    (omega (arith, used, keys-in-count (a .file .now) (a .bucket))) (sym (c .before .of-lift .ensures) ∙ c .if1 .taken)
+    let d = c .before .before .before .before .before in
+    fill-fits (c .before .before .loop .inv) (keys-few (d .pre .0) (d .args .bucket) (d .pre .2)) (c .before .loop-test .taken) (d .pre .4)
+
+cast-left : tie.Need-cast-left Inv-loop μ-loop
+cast-left c =
+    let d = c .before .before .before .before .before in
+    let short = keys-few (d .pre .0) (d .args .bucket) (d .pre .2) in
+    omega (arith, short, fill-within (c .before .before .loop .inv) short (c .before .loop-test .taken))
+
+shr-left : tie.Need-shr-left Inv-loop μ-loop
+shr-left c =
+    let d = c .before .before .before .before .before in
+    let short = keys-few (d .pre .0) (d .args .bucket) (d .pre .2) in
+    omega (arith, short, fill-within (c .before .before .loop .inv) short (c .before .loop-test .taken))
+
+add-slot : tie.Need-add-slot Inv-loop μ-loop
+add-slot c =
+    let d = c .before .before .before .before .before in
+    let short = keys-few (d .pre .0) (d .args .bucket) (d .pre .2) in
+    record { fits = omega (arith, short, fill-within (c .before .before .loop .inv) short (c .before .loop-test .taken)) }
 
 add-filled : tie.Need-add-filled Inv-loop μ-loop
 add-filled c = search needs
 
-add-k : tie.Need-add-k Inv-loop μ-loop
-add-k c = search needs
-
 loop-less : tie.Need-loop-less Inv-loop μ-loop
-loop-less c = search needs
+loop-less c =
+    let d = c .before .before .before .before .before in
+    omega (arith, fill-within (c .before .before .loop .inv) (keys-few (d .pre .0) (d .args .bucket) (d .pre .2)) (c .before .loop-test .taken))
 
 loop-again : tie.Need-loop-again Inv-loop μ-loop
 loop-again c =
-    let a = c .before .before .before .before .before .before .before .before .before .args in
-    let pre = c .before .before .before .before .before .before .before .before .before .pre in
-    let l = c .before .before .before .before .loop in
-    let s = c .before .before .before .before .before .before .start in
-    let r = c .before .before .read8 in
-    let used : l .k < countOf (regionOf (a .file .now) (a .bucket)) = omega (arith, c .before .before .before .before .before .held-in .ensures .0) in
-    let read : r .result ≡ getD (keysIn (a .file .now) (a .bucket)) (l .k) 0 = r .ensures ∙ key-read (pre .0) (a .bucket) (s .result) (s .ensures .0) (pre .1) (pre .2) (l .k) used in
-    let more : l .k < length (keysIn (a .file .now) (a .bucket)) = omega (arith, used, keys-in-count (a .file .now) (a .bucket)) in
-    ⊎-elim
-    (λ w. rw (w .1, w .2) (fill-in (l .inv) (pre .3) (r .result) read more (sym (c .before .of-lift .ensures) ∙ w .0 .taken)))
-    (λ w. rw (w .1, w .2) (fill-out (l .inv) (pre .3) (r .result) read more (sym (c .before .of-lift .ensures) ∙ w .0 .left)))
-    (c .if1 .came)
+    let d = c .before .before .before .before .before in
+    let a = d .args in
+    let l = c .before .before .loop in
+    let some = c .before .loop-test .taken in
+    let short = keys-few (d .pre .0) (a .bucket) (d .pre .2) in
+    let used : l .slot + trailingZeros 64 (l .left) < countOf (regionOf (a .file .now) (a .bucket)) = omega (arith, fill-within (l .inv) short some, keys-in-count (a .file .now) (a .bucket)) in
+    fill-more (l .inv) short some (d .pre .4) (c .key-in .result) (c .key-in .ensures ∙ key-of (a .file .now) (a .bucket) (l .slot + trailingZeros 64 (l .left)) used)
 
 same-length : tie.Need-same-length Inv-loop μ-loop
 same-length c = search needs
 
 returns : tie.Need-returns Inv-loop μ-loop
-returns c =
-    let a = c .before .before .before .before .before .before .args in
-    fill-done (c .before .loop .inv) (omega (arith, c .before .before .held-in .ensures .0, keys-in-count (a .file .now) (a .bucket)))
+returns c = fill-done (c .before .loop .inv) (c .loop-test .left)
 
 pub put-bucket-spec : {M : Type 1} → statement M
 put-bucket-spec =
@@ -100,18 +99,16 @@ put-bucket-spec =
     (tie.spec
     Inv-loop
     μ-loop
-    start-requires
-    held-in-requires
     loop-holds
-    mul-read8
-    add-read8
-    add-read8-2
-    read8-requires
-    of-lift-requires
+    cast-found
+    add-found
+    key-in-requires
     mul-matches
     slice-write-matches
+    cast-left
+    shr-left
+    add-slot
     add-filled
-    add-k
     loop-less
     loop-again
     same-length

@@ -44,12 +44,15 @@ returns-2 c =
 slice-aggregate-follow : tie.Need-slice-aggregate-follow
 slice-aggregate-follow c = search needs
 
+slice-aggregate-follow-2 : tie.Need-slice-aggregate-follow-2
+slice-aggregate-follow-2 c = search needs
+
 follow-requires : tie.Need-follow-requires
 follow-requires c κs =
-    let given = ready (c .before .before .before .before .before .before .before .before .before .before .«open» .ensures .1 (c .before .before .before .before .before .before .before .before .if1 .left)) in
-    let b = c .before .before .before .before .before .buckets in
+    let given = ready (c .before .before .before .before .before .before .before .before .before .before .before .«open» .ensures .1 (c .before .before .before .before .before .before .before .before .before .if1 .left)) in
+    let b = c .before .before .before .before .before .before .buckets in
     let all = ready-buckets given (b .result) (b .ensures) in
-    (given, omega (arith, c .before .before .before .if3 .taken, all, ready-few given), omega (arith, c .before .before .before .before .if2 .left, all))
+    (given, omega (arith, c .before .before .before .before .if3 .taken, all, ready-few given), omega (arith, c .before .before .before .before .if3 .taken, all, ready-few given), omega (arith, c .before .before .before .before .before .if2 .left, all))
 
 same-length : tie.Need-same-length
 same-length c = search needs
@@ -59,24 +62,27 @@ same-length-2 c = search needs
 
 returns-3 : tie.Need-returns-3
 returns-3 c =
-    let a = c .before .before .before .before .before .before .before .before .before .before .before .before .before .before .before .before .before .before .before .before .before .args in
-    let o = c .before .before .before .before .before .before .before .before .before .before .before .before .before .before .before .before .«open» in
-    let none = c .before .before .before .before .before .before .before .before .before .before .before .before .before .before .if1 .left in
-    let b = c .before .before .before .before .before .before .before .before .before .before .before .buckets in
-    let f = c .before .before .before .before .before .follow in
+    let a = c .before .before .before .before .before .before .before .before .before .before .before .before .before .before .before .before .before .before .before .before .before .before .before .args in
+    let o = c .before .before .before .before .before .before .before .before .before .before .before .before .before .before .before .before .before .before .«open» in
+    let none = c .before .before .before .before .before .before .before .before .before .before .before .before .before .before .before .before .if1 .left in
+    let b = c .before .before .before .before .before .before .before .before .before .before .before .before .before .buckets in
+    let f = c .before .before .before .before .before .before .follow in
     scan-long (a .file .now) (a .table .now) (a .client) (a .lift) (a .visits .now) (a .matches .now) (sym (o .ensures .0) ∙ none)
-    (omega (arith, c .before .before .before .before .before .before .before .before .before .before .if2 .left, ready-buckets (ready (o .ensures .1 none)) (b .result) (b .ensures)))
-    (answered (f .result) (f .last .1 .1 .1 .1 .1 .0) (f .last .1 .1 .1 .1 .1 .1 .0)) (visitsOf (a .file .now) (o .result .image)) (f .ensures) (ap (visitsOf (a .file .now)) (o .ensures .1 none .is))
+    (omega (arith, c .before .before .before .before .before .before .before .before .before .before .before .before .if2 .left, ready-buckets (ready (o .ensures .1 none)) (b .result) (b .ensures)))
+    (answered (f .result) (f .last .1 .1 .1 .1 .1 .1 .0) (f .last .1 .1 .1 .1 .1 .1 .1 .0)) (visitsOf (a .file .now) (o .result .image)) (f .ensures) (ap (visitsOf (a .file .now)) (o .ensures .1 none .is))
 
-slice-aggregate-follow-2 : tie.Need-slice-aggregate-follow-2
-slice-aggregate-follow-2 c = search needs
+slice-aggregate-follow-3 : tie.Need-slice-aggregate-follow-3
+slice-aggregate-follow-3 c = search needs
+
+slice-aggregate-follow-4 : tie.Need-slice-aggregate-follow-4
+slice-aggregate-follow-4 c = search needs
 
 follow-requires-2 : tie.Need-follow-requires-2
 follow-requires-2 c κs =
-    let given = ready (c .before .before .before .before .before .before .before .before .before .before .«open» .ensures .1 (c .before .before .before .before .before .before .before .before .if1 .left)) in
-    let b = c .before .before .before .before .before .buckets in
+    let given = ready (c .before .before .before .before .before .before .before .before .before .before .before .«open» .ensures .1 (c .before .before .before .before .before .before .before .before .before .if1 .left)) in
+    let b = c .before .before .before .before .before .before .buckets in
     let all = ready-buckets given (b .result) (b .ensures) in
-    (given, omega (arith, c .before .before .before .if3 .left, all, ready-few given), omega (arith, c .before .before .before .before .if2 .left, all))
+    (given, omega (arith, c .before .before .before .before .if3 .left, all, ready-few given), omega (arith, c .before .before .before .before .if3 .left, all, ready-few given), omega (arith, c .before .before .before .before .before .if2 .left, all))
 
 same-length-3 : tie.Need-same-length-3
 same-length-3 c = search needs
@@ -86,14 +92,14 @@ same-length-4 c = search needs
 
 returns-4 : tie.Need-returns-4
 returns-4 c =
-    let a = c .before .before .before .before .before .before .before .before .before .before .before .before .before .before .before .before .before .before .before .before .before .args in
-    let o = c .before .before .before .before .before .before .before .before .before .before .before .before .before .before .before .before .«open» in
-    let none = c .before .before .before .before .before .before .before .before .before .before .before .before .before .before .if1 .left in
-    let b = c .before .before .before .before .before .before .before .before .before .before .before .buckets in
-    let f = c .before .before .before .before .before .follow2 in
+    let a = c .before .before .before .before .before .before .before .before .before .before .before .before .before .before .before .before .before .before .before .before .before .before .before .args in
+    let o = c .before .before .before .before .before .before .before .before .before .before .before .before .before .before .before .before .before .before .«open» in
+    let none = c .before .before .before .before .before .before .before .before .before .before .before .before .before .before .before .before .if1 .left in
+    let b = c .before .before .before .before .before .before .before .before .before .before .before .before .before .buckets in
+    let f = c .before .before .before .before .before .before .follow2 in
     scan-long (a .file .now) (a .table .now) (a .client) (a .lift) (a .visits .now) (a .matches .now) (sym (o .ensures .0) ∙ none)
-    (omega (arith, c .before .before .before .before .before .before .before .before .before .before .if2 .left, ready-buckets (ready (o .ensures .1 none)) (b .result) (b .ensures)))
-    (answered (f .result) (f .last .1 .1 .1 .1 .1 .0) (f .last .1 .1 .1 .1 .1 .1 .0)) (visitsOf (a .file .now) (o .result .image)) (f .ensures) (ap (visitsOf (a .file .now)) (o .ensures .1 none .is))
+    (omega (arith, c .before .before .before .before .before .before .before .before .before .before .before .before .if2 .left, ready-buckets (ready (o .ensures .1 none)) (b .result) (b .ensures)))
+    (answered (f .result) (f .last .1 .1 .1 .1 .1 .1 .0) (f .last .1 .1 .1 .1 .1 .1 .1 .0)) (visitsOf (a .file .now) (o .result .image)) (f .ensures) (ap (visitsOf (a .file .now)) (o .ensures .1 none .is))
 
 pub scan-spec : {M : Type 1} → statement M
 scan-spec =
@@ -108,11 +114,13 @@ scan-spec =
     refused-scan-requires-2
     returns-2
     slice-aggregate-follow
+    slice-aggregate-follow-2
     follow-requires
     same-length
     same-length-2
     returns-3
-    slice-aggregate-follow-2
+    slice-aggregate-follow-3
+    slice-aggregate-follow-4
     follow-requires-2
     same-length-3
     same-length-4

@@ -5,14 +5,19 @@ use mathlib.Core.Bool.{Bool, true, false, true≢false}
 use mathlib.Core.List.{List, [], _∷_, _++_}
 use native.Mathlib.Omega.{arith}
 use lib.Dec.{eqb}
-use lib.ListN.{length, getD, drop, length-append}
+use lib.Count.{ones}
+use lib.ListN.{length, getD, drop, set, length-append, length-set}
 use Rattle.address.specs.Limits.{noBucket}
-use Rattle.bucket.specs.Region.{countOf}
-use Rattle.bucket.specs.Region.Keep.{keys-count}
+use Rattle.bucket.specs.Region.{countOf, keyAt}
+use Rattle.bucket.specs.Region.Keep.{keys-count, keys-at}
 use Rattle.file.specs.File.{regionOf, bucketSoundIn}
+use Rattle.file.specs.File.Judge.{Known}
+use Rattle.file.specs.File.Region.{sound-few}
+use Rattle.file.specs.declared.Header.{Header}
 use Rattle.route.specs.Way.{everyOn}
 use Rattle.route.specs.Way.Route.{every-fails, every-none}
 use Rattle.scan.specs.Scan.{ofLift, matching, keysIn, matchesOn, firstUnsound}
+use Rattle.scan.specs.Scan.Bits.{bitsOf, bits-count, Noted, note-more}
 use Rattle.scan.specs.Scan.Way.{rest-first, rest-none, every-next}
 
 -- ---- the matching ones of some keys
@@ -41,42 +46,18 @@ match-few lift (key ∷ keys) = go (ofLift lift key) refl (match-few lift keys)
     go true e rest = omega (arith, ap length (match-in lift key keys e))
     go false e rest = omega (arith, ap length (match-out lift key keys e))
 
--- the counting loop: how many were found, and how many are left to find
-pub record Counted (keys : List ℕ) (lift k found : ℕ) : Type 0 where
-  pub within : k ≤ length keys
-  pub few : found ≤ k
-  pub counted : found + length (matching lift (drop k keys)) ≡ length (matching lift keys)
-
-pub count-none : (keys : List ℕ) (lift : ℕ) → Counted keys lift 0 0
-count-none keys lift = record { within = omega arith; few = omega arith; counted = omega arith }
-
-module _ {keys : List ℕ} {lift k found : ℕ} (so : Counted keys lift k found) where
-  pub count-done : length keys ≤ k → found ≡ length (matching lift keys)
-  count-done end = omega (arith, so .counted, ap (λ (l : List ℕ). length (matching lift l)) (rest-none keys k end), ap length (match-none lift))
-
-  module _ (more : k < length keys) (key : ℕ) (here : key ≡ getD keys k 0) where
-    one : length (matching lift (drop k keys)) ≡ length (matching lift (key ∷ drop (k + 1) keys))
-    one = ap (λ (l : List ℕ). length (matching lift l)) (rest-first keys k more ∙ ap (λ (x : ℕ). x ∷ drop (k + 1) keys) (sym here))
-
-    pub count-in : ofLift lift key ≡ true → Counted keys lift (k + 1) (found + 1)
-    count-in h = record {
-      within = omega arith;
-      few = omega (arith, so .few);
-      counted = omega (arith, so .counted, one, ap length (match-in lift key (drop (k + 1) keys) h));
-    }
-
-    pub count-out : ofLift lift key ≡ false → Counted keys lift (k + 1) found
-    count-out h = record {
-      within = omega arith;
-      few = omega (arith, so .few);
-      counted = omega (arith, so .counted, one, ap length (match-out lift key (drop (k + 1) keys) h));
-    }
-
 -- ---- the buckets of a way, judged and counted
 
 pub keys-in-count : (file : List ℕ) (a : ℕ) → length (keysIn file a) ≡ countOf (regionOf file a)
 unfolding keysIn
 keys-in-count file a = keys-count (regionOf file a)
+
+pub keys-few : {file : List ℕ} {header : Header} → Known file header → (a : ℕ) → bucketSoundIn file a ≡ true → length (keysIn file a) ≤ 64
+keys-few {file} seen a sound = omega (arith, keys-in-count file a, sound-few file a sound, seen .ranges .figured .few-slots)
+
+pub key-of : (file : List ℕ) (a k : ℕ) → k < countOf (regionOf file a) → keyAt (regionOf file a) k ≡ getD (keysIn file a) k 0
+unfolding keysIn
+key-of file a k used = sym (keys-at (regionOf file a) k used)
 
 pub matches-first : (file : List ℕ) (lift a : ℕ) (way : List ℕ) → matchesOn file lift (a ∷ way) ≡ matching lift (keysIn file a) ++ matchesOn file lift way
 unfolding matchesOn
@@ -95,52 +76,67 @@ unfolding firstUnsound
 unsound-later file a way h = rw h
 
 -- what a tally tells of a way
-pub record Judged (file : List ℕ) (lift : ℕ) (way : List ℕ) (sound : Bool) (bucket matches : ℕ) : Type 0 where
+pub record Judged (file : List ℕ) (lift : ℕ) (way : List ℕ) (sound : Bool) (bucket matches : ℕ) (bits : List ℕ) : Type 0 where
   pub all : sound ≡ everyOn (bucketSoundIn file) way
   pub first : sound ≡ false → bucket ≡ firstUnsound file way
   pub found : sound ≡ true → matches ≡ length (matchesOn file lift way)
+  pub noted : sound ≡ true → Noted file lift way bits (length way)
 
--- the judging loop: what is left of the way is judged and counted as the whole
-pub record Tallied (file : List ℕ) (lift : ℕ) (way : List ℕ) (k found : ℕ) : Type 0 where
+-- the judging loop: what is left of the way is judged and counted as the whole, and of the rest it is noted which keys match
+pub record Tallied (file : List ℕ) (lift : ℕ) (way : List ℕ) (k found : ℕ) (bits : List ℕ) : Type 0 where
   pub within : k ≤ length way
+  pub long : length way ≤ length bits
   pub few : found ≤ 64 * k
   pub sound : everyOn (bucketSoundIn file) (drop k way) ≡ everyOn (bucketSoundIn file) way
   pub first : firstUnsound file (drop k way) ≡ firstUnsound file way
   pub counted : found + length (matchesOn file lift (drop k way)) ≡ length (matchesOn file lift way)
+  pub noted : Noted file lift way bits k
 
-pub tally-none : (file : List ℕ) (lift : ℕ) (way : List ℕ) → Tallied file lift way 0 0
-tally-none file lift way = record { within = omega arith; few = omega arith; sound = refl; first = refl; counted = omega arith }
+pub tally-none : (file : List ℕ) (lift : ℕ) (way bits : List ℕ) → length way ≤ length bits → Tallied file lift way 0 0 bits
+tally-none file lift way bits long = record { within = omega arith; long = long; few = omega arith; sound = refl; first = refl; counted = omega arith; noted = λ i h. absurd (omega arith) }
 
-module _ {file : List ℕ} {lift : ℕ} {way : List ℕ} {k found : ℕ} (so : Tallied file lift way k found) where
-  pub tally-done : length way ≤ k → Judged file lift way true noBucket found
+module _ {file : List ℕ} {lift : ℕ} {way : List ℕ} {k found : ℕ} {bits : List ℕ} (so : Tallied file lift way k found bits) where
+  pub tally-done : length way ≤ k → Judged file lift way true noBucket found bits
   tally-done end = record {
     all = sym (sym (so .sound) ∙ ap (everyOn (bucketSoundIn file)) (rest-none way k end) ∙ every-none (bucketSoundIn file));
     first = λ h. absurd (true≢false h);
     found = λ h. omega (arith, so .counted, ap (λ (l : List ℕ). length (matchesOn file lift l)) (rest-none way k end), ap length (matches-none file lift));
+    noted = λ h i l. so .noted i (omega arith);
   }
 
   module _ (a : ℕ) (here : a ≡ getD way k 0) (more : k < length way) where
     left : drop k way ≡ a ∷ drop (k + 1) way
     left = rest-first way k more ∙ ap (λ (b : ℕ). b ∷ drop (k + 1) way) (sym here)
 
-    pub tally-stop : bucketSoundIn file a ≡ false → Judged file lift way false a 0
+    pub tally-stop : bucketSoundIn file a ≡ false → Judged file lift way false a 0 bits
     tally-stop bad = record {
       all = sym (sym (so .sound) ∙ ap (everyOn (bucketSoundIn file)) left ∙ every-fails (bucketSoundIn file) a (drop (k + 1) way) bad);
       first = λ h. sym (unsound-here file a (drop (k + 1) way) bad) ∙ ap (firstUnsound file) (sym left) ∙ so .first;
       found = λ h. absurd (true≢false (sym h));
+      noted = λ h. absurd (true≢false (sym h));
     }
 
-    pub tally-more : bucketSoundIn file a ≡ true → (n : ℕ) → n ≡ length (matching lift (keysIn file a)) → n ≤ 64 → Tallied file lift way (k + 1) (found + n)
-    tally-more fine n counted few = record {
-      within = omega arith;
-      few = omega (arith, so .few);
-      sound = sym (every-next (bucketSoundIn file) a (drop (k + 1) way) fine) ∙ ap (everyOn (bucketSoundIn file)) (sym left) ∙ so .sound;
-      first = sym (unsound-later file a (drop (k + 1) way) fine) ∙ ap (firstUnsound file) (sym left) ∙ so .first;
-      counted = omega (
-        arith,
-        so .counted,
-        ap (λ (l : List ℕ). length (matchesOn file lift l)) left,
-        ap length (matches-first file lift a (drop (k + 1) way)),
-        length-append (matching lift (keysIn file a)) (matchesOn file lift (drop (k + 1) way)),
-      );
-    }
+    module _ (fine : bucketSoundIn file a ≡ true) (few : length (keysIn file a) ≤ 64) (b : ℕ) (eb : b ≡ bitsOf lift (keysIn file a)) where
+      matches : ones b ≡ length (matching lift (keysIn file a))
+      matches = ap ones eb ∙ bits-count lift (keysIn file a)
+
+      pub tally-few : ones b ≤ 64
+      tally-few = omega (arith, matches, match-few lift (keysIn file a))
+
+      pub tally-more : Tallied file lift way (k + 1) (found + ones b) (set bits k b)
+      tally-more = record {
+        within = omega arith;
+        long = omega (arith, so .long, length-set bits k b);
+        few = omega (arith, so .few, tally-few);
+        sound = sym (every-next (bucketSoundIn file) a (drop (k + 1) way) fine) ∙ ap (everyOn (bucketSoundIn file)) (sym left) ∙ so .sound;
+        first = sym (unsound-later file a (drop (k + 1) way) fine) ∙ ap (firstUnsound file) (sym left) ∙ so .first;
+        counted = omega (
+          arith,
+          so .counted,
+          matches,
+          ap (λ (l : List ℕ). length (matchesOn file lift l)) left,
+          ap length (matches-first file lift a (drop (k + 1) way)),
+          length-append (matching lift (keysIn file a)) (matchesOn file lift (drop (k + 1) way)),
+        );
+        noted = note-more file lift way bits k (so .noted) (omega (arith, so .long)) b (eb ∙ ap (λ (c : ℕ). bitsOf lift (keysIn file c)) here);
+      }
