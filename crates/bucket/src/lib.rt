@@ -1,6 +1,6 @@
 // One bucket's region: judged, searched, a ride placed in it, and its rides divided.
 ghost use mathlib.Core.Path.{_≡_};
-ghost use mathlib.Core.Bool.{not, cond, true, false};
+ghost use mathlib.Core.Bool.{_&&_, not, cond, true, false};
 ghost use Prim.Native.Nat.{ℕ, _+_, _*_, _-_, _≤_, _<_};
 ghost use lib.Dec.{eqb};
 ghost use lib.ListN.{length, replicate};
@@ -8,7 +8,7 @@ ghost use Rattle.address.specs.Room.{Room};
 ghost use Rattle.address.specs.Rules.{keeps};
 ghost use Rattle.layout.specs.Bytes.{leBytes, firstFrom, edit, part};
 ghost use mathlib.Core.List.{[]};
-ghost use Rattle.bucket.specs.Region.{slotAt, countOf, keyAt, ridesOf, headSound, soundWith, slotOf, headBytes, slotBytes, encode, kept};
+ghost use Rattle.bucket.specs.Region.{slotAt, countOf, slotUsed, keyAt, ridesOf, headSound, soundWith, slotOf, headBytes, slotBytes, encode, kept};
 ghost use Rattle.bucket.specs.Region.Divide.{Halves, Parted};
 ghost use Rattle.bucket.specs.Region.Single.{Chained, SlotsJudged, SoughtAt, fingerprint, latestOf};
 
@@ -74,6 +74,14 @@ fn chosen(test: bool, one: usize, other: usize) -> usize
     other
 }
 
+// Whether a slot is marked and its key, which is given, belongs.
+fn slot_fits(region: &[u8], slot: usize, first: u32, bucket: u32, level: u32, key: u64) -> bool
+    requires { ⌜ Room first level × (slotAt slot + 24 ≤ length (now region)) × (slot < 64) ⌝ }
+    ensures { λ r. ⌜ r ≡ (slotUsed (now (region .entry)) slot && keeps first bucket level key) ⌝ }
+{
+    layout::has_mark(region, 8 + 24 * slot, b"LR") & (address::hash(first, level, key) == bucket)
+}
+
 // The same as `slots_sound`, each key compared with all before it.
 fn slots_paired(
     region: &[u8],
@@ -86,24 +94,20 @@ fn slots_paired(
     requires { ⌜ Room first level × (slotAt count ≤ length (now region)) × (count ≤ 64) ⌝ }
     ensures { λ r. ⌜ SlotsJudged (keeps first bucket level) (now (region .entry)) count key (r .sound) (r .place) ⌝ }
 {
-    let mut used = true;
-    let mut belong = true;
     let mut place = count;
     let mut k = 0;
     while k < count {
         let held = key_at(region, k);
-        used = used & layout::has_mark(region, 8 + 24 * k, b"LR");
-        belong = belong & (address::hash(first, level, held) == bucket);
         place = chosen(held == key, k, place);
+        if !slot_fits(region, k, first, bucket, level, held) {
+            return unsound();
+        }
         if find(region, k, held) < k {
             return unsound();
         }
         k = k + 1;
     }
-    Judged {
-        sound: used & belong,
-        place,
-    }
+    Judged { sound: true, place }
 }
 
 // A number below 512 that keys of different rides and lifts seldom share.
@@ -156,13 +160,12 @@ fn slots_chained(
     requires { ⌜ Room first level × (slotAt count ≤ length (now region)) × (count ≤ 64) × (now latest ≡ replicate 512 0) × (length (now before) ≡ 64) ⌝ }
     ensures { λ r. ⌜ SlotsJudged (keeps first bucket level) (now (region .entry)) count key (r .sound) (r .place) ⌝ }
 {
-    let mut used = true;
-    let mut belong = true;
     let mut k = 0;
     while k < count {
         let held = key_at(region, k);
-        used = used & layout::has_mark(region, 8 + 24 * k, b"LR");
-        belong = belong & (address::hash(first, level, held) == bucket);
+        if !slot_fits(region, k, first, bucket, level, held) {
+            return unsound();
+        }
         let mark = fingerprint(held);
         let next = latest[mark];
         if seek(region, before, k, next as usize, held) != 0 {
@@ -175,7 +178,7 @@ fn slots_chained(
     let last = latest[fingerprint(key)];
     let found = seek(region, before, count, last as usize, key);
     Judged {
-        sound: used & belong,
+        sound: true,
         place: slot_before(found, count),
     }
 }

@@ -1,8 +1,9 @@
 // Bytes in lent memory: little-endian numbers, two-byte marks, zeros and copies.
 ghost use mathlib.Core.Path.{_≡_};
-ghost use Prim.Native.Nat.{_+_, _≤_, _<_};
+ghost use Prim.Native.Nat.{ℕ, _+_, _*_, _≤_, _<_};
+ghost use lib.Dec.{eqb};
 ghost use lib.ListN.{length, replicate};
-ghost use Rattle.layout.specs.Bytes.{leAt, leBytes, marked, allZero, edit};
+ghost use Rattle.layout.specs.Bytes.{byteAt, leAt, leBytes, marked, allBelow, allZero, edit};
 
 // A byte as a wide number.
 pub fn wide(x: u8) -> u64
@@ -42,12 +43,27 @@ pub fn has_mark(bytes: &[u8], at: usize, mark: &[u8; 2]) -> bool
     read2(bytes, at) == wide(mark[0]) + wide(mark[1]) * 256
 }
 
-// Whether all bytes are zero. No early exit, so that many bytes are tested at a time.
+// Whether the first words, of eight bytes each, are zero. No early exit, so that many bytes are tested at a time.
+fn words_zero(bytes: &[u8], words: usize) -> bool
+    requires { ⌜ 8 * words ≤ length (now bytes) ⌝ }
+    ensures { λ r. ⌜ r ≡ allBelow (λ (k : ℕ). eqb (byteAt (now (bytes .entry)) k) 0) (8 * words) ⌝ }
+{
+    let mut seen = 0;
+    let mut k = 0;
+    while k < words {
+        seen = seen | read8(bytes, 8 * k);
+        k = k + 1;
+    }
+    seen == 0
+}
+
+// Whether all bytes are zero: the words, and the bytes behind them.
 pub fn is_zero(bytes: &[u8]) -> bool
     ensures { λ r. ⌜ r ≡ allZero (now (bytes .entry)) ⌝ }
 {
-    let mut clean = true;
-    let mut k = 0;
+    let words = bytes.len() / 8;
+    let mut clean = words_zero(bytes, words);
+    let mut k = 8 * words;
     while k < bytes.len() {
         clean = clean & (bytes[k] == 0);
         k = k + 1;

@@ -7,7 +7,7 @@ ghost use mathlib.Core.Bool.{true, cond};
 ghost use Prim.Native.Nat.{_+_, _^_, _≤_, _<_};
 ghost use lib.ListN.{length};
 ghost use Rattle.layout.specs.Bytes.{edit};
-ghost use Rattle.file.specs.File.{bucketsOf, regionOf, bucketSoundIn};
+ghost use Rattle.file.specs.File.{bucketsOf, bucketSoundIn};
 ghost use Rattle.file.specs.File.Judge.{Known};
 ghost use Rattle.route.specs.Way.{everyOn};
 ghost use Rattle.scan.specs.Scan.{Scanned, ofLift, keysIn, visitsOf, collected, scan};

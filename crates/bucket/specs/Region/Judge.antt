@@ -1,7 +1,7 @@
 -- What each turn of the judging loops adds: over plain values, so that a function's proof only cites.
 use Prim.Native.Nat.{ℕ, zero, suc, _+_, _*_, _-_, _≤_, _<_}
 use mathlib.Core.Path.{_≡_, refl, sym, ap, ap₂, _∙_}
-use mathlib.Core.Bool.{Bool, true, false, not, _&&_, and-assoc, and-true}
+use mathlib.Core.Bool.{Bool, true, false, not, _&&_, and-true}
 use mathlib.Core.List.{List, [], _∷_, _++_}
 use mathlib.Core.Logic.{⊎-elim}
 use native.Mathlib.Nat.{add-zero, zero-add}
@@ -17,7 +17,7 @@ use Rattle.address.specs.Rules.Cases.{keeps-is}
 use Rattle.layout.specs.Bytes.{byteAt, leAt, marked, allBelow, allZero, part}
 use Rattle.layout.specs.Bytes.Tests.{all-none, all-more, and-left, and-right, and-both, and-none}
 use Rattle.bucket.specs.Region.{Ride, bucketMark, slotAt, countOf, levelOf, headFormed, slotUsed, keyAt, rideAt, ridesFrom, ridesOf, keysOf, every, distinct, headSound, soundWith}
-use Rattle.bucket.specs.Region.Rides.{keys-append, distinct-append}
+use Rattle.bucket.specs.Region.Rides.{keys-append, every-append, distinct-append}
 
 pub head-judged : (S j : ℕ) (region : List ℕ) (mark : Bool) (l n : ℕ) → mark ≡ marked region 0 bucketMark → l ≡ byteAt region 2 → n ≡ leAt 2 region 4
     → (mark && eqb (byteAt region 3) 0 && eqb (byteAt region 6) 0 && eqb (byteAt region 7) 0 && eqb l j && leb n S) ≡ headSound S j region
@@ -32,7 +32,7 @@ pub ride-payload : (region : List ℕ) (k : ℕ) → rideAt region k .payload �
 unfolding rideAt
 ride-payload region k = refl
 
-pub used-is : (region : List ℕ) (k : ℕ) → slotUsed region k ≡ marked region (8 + 24 * k) (76 ∷ 82 ∷ [])
+used-is : (region : List ℕ) (k : ℕ) → slotUsed region k ≡ marked region (8 + 24 * k) (76 ∷ 82 ∷ [])
 unfolding slotUsed
 used-is region k = refl
 
@@ -53,61 +53,50 @@ keys-more region k =
     ∙ keys-append (ridesFrom region 0 k) (rideAt region (0 + k))
     ∙ ap (λ (n : ℕ). keysOf (ridesFrom region 0 k) ++ (keyAt region n ∷ [])) (zero-add k)
 
--- what is left, by its first slot
-every-left : (own : ℕ → Bool) (region : List ℕ) (e k : ℕ) → k < e
-    → every own (keysOf (ridesFrom region k (e - k))) ≡ (own (keyAt region k) && every own (keysOf (ridesFrom region (k + 1) (e - (k + 1)))))
-unfolding ridesFrom keysOf every rideAt
-every-left own region e k h = ap (λ (n : ℕ). every own (keysOf (ridesFrom region k n))) more
-    ∙ ap (λ (n : ℕ). own (keyAt region k) && every own (keysOf (ridesFrom region n (e - (k + 1))))) (sym (add-one k))
-  where
-    more : e - k ≡ suc (e - (k + 1))
-    more = omega arith
+-- ---- slots that are marked and whose keys belong
 
-every-done : (own : ℕ → Bool) (region : List ℕ) (e k : ℕ) → e ≤ k → every own (keysOf (ridesFrom region k (e - k))) ≡ true
-unfolding ridesFrom keysOf every
-every-done own region e k h = ap (λ (n : ℕ). every own (keysOf (ridesFrom region k n))) none
-  where
-    none : e - k ≡ 0
-    none = omega arith
+abbrev pub fitting : (ℕ → Bool) → List ℕ → ℕ → Bool
+fitting own region k = slotUsed region k && own (keyAt region k)
 
--- the loop over the slots: marks so far, and what is left to belong
-pub record Slotted (own : ℕ → Bool) (region : List ℕ) (count k : ℕ) (used belong : Bool) : Type 0 where
-  pub within : k ≤ count
-  pub marks : used ≡ allBelow (slotUsed region) k
-  pub tested : (belong && every own (keysOf (ridesFrom region k (count - k)))) ≡ every own (keysOf (ridesFrom region 0 count))
+module _ (own : ℕ → Bool) (region : List ℕ) where
+  pub fits-more : (k : ℕ) → allBelow (fitting own region) k ≡ true → fitting own region k ≡ true → allBelow (fitting own region) (k + 1) ≡ true
+  fits-more k so fits = all-more (fitting own region) k ∙ and-both (allBelow (fitting own region) k) (fitting own region k) so fits
 
-pub slots-none : (own : ℕ → Bool) (region : List ℕ) (count : ℕ) → Slotted own region count 0 true true
-slots-none own region count = record {
-  within = omega arith;
-  marks = sym (all-none (slotUsed region));
-  tested = ap (λ (n : ℕ). every own (keysOf (ridesFrom region 0 n))) whole;
-}
-  where
-    whole : count - 0 ≡ count
-    whole = omega arith
+  abbrev each : ℕ → Bool
+  each n = allBelow (slotUsed region) n && every own (keysOf (ridesFrom region 0 n))
 
-pub slots-more : (N a j : ℕ) (region : List ℕ) (count k : ℕ) (used belong mark : Bool) (key h : ℕ)
-    → Slotted (keeps N a j) region count k used belong → k < count
-    → key ≡ keyAt region k → mark ≡ marked region (8 + 24 * k) (76 ∷ 82 ∷ []) → h ≡ hash N j key
-    → Slotted (keeps N a j) region count (k + 1) (used && mark) (belong && eqb h a)
-slots-more N a j region count k used belong mark key h so more ek em eh = record {
-  within = omega arith;
-  marks = ap₂ _&&_ (so .marks) (em ∙ sym (used-is region k)) ∙ sym (all-more (slotUsed region) k);
-  tested = and-assoc belong (eqb h a) _ ∙ ap (λ (b : Bool). belong && b) (ap (λ (b : Bool). b && every (keeps N a j) (keysOf (ridesFrom region (k + 1) (count - (k + 1))))) own ∙ sym (every-left (keeps N a j) region count k more)) ∙ so .tested;
-}
-  where
-    own : eqb h a ≡ keeps N a j (keyAt region k)
-    own = ap (λ (x : ℕ). eqb x a) (eh ∙ ap (hash N j) ek) ∙ sym (keeps-is N a j (keyAt region k))
+  each-none : each 0 ≡ true
+  unfolding ridesFrom keysOf every
+  each-none = rw (all-none (slotUsed region))
 
-pub slots-done : (own : ℕ → Bool) (region : List ℕ) (count k : ℕ) (used belong : Bool) → Slotted own region count k used belong → count ≤ k
-    → (single : Bool) → true ≡ single → (used && belong) ≡ (allBelow (slotUsed region) count && every own (keysOf (ridesFrom region 0 count)) && single)
-slots-done own region count k used belong so end single es =
-    ap₂ _&&_ (so .marks ∙ ap (allBelow (slotUsed region)) all)
-    (sym (and-true belong) ∙ ap (λ (b : Bool). belong && b) (sym (every-done own region count k end)) ∙ so .tested)
-    ∙ sym (and-true (allBelow (slotUsed region) count && every own (keysOf (ridesFrom region 0 count)))) ∙ ap (λ (b : Bool). allBelow (slotUsed region) count && every own (keysOf (ridesFrom region 0 count)) && b) es
-  where
-    all : k ≡ count
-    all = omega (arith, so .within)
+  each-more : (n : ℕ) → each (n + 1) ≡ (each n && fitting own region n)
+  each-more n =
+      ap₂ _&&_ (all-more (slotUsed region) n) (ap (every own) (keys-more region n) ∙ every-append own (keysOf (ridesFrom region 0 n)) (keyAt region n))
+      ∙ go (allBelow (slotUsed region) n) (slotUsed region n) (every own (keysOf (ridesFrom region 0 n))) (own (keyAt region n))
+    where
+      go : (a b c d : Bool) → (a && b && (c && d)) ≡ (a && c && (b && d))
+      go true true c d = refl
+      go true false true d = refl
+      go true false false d = refl
+      go false b c d = refl
+
+  -- each slot fits if each is marked and each key belongs
+  pub fits-all : (n : ℕ) → allBelow (fitting own region) n ≡ (allBelow (slotUsed region) n && every own (keysOf (ridesFrom region 0 n)))
+  fits-all zero = all-none (fitting own region) ∙ sym each-none
+  fits-all (suc n) =
+      ap (allBelow (fitting own region)) (sym (add-one n))
+      ∙ all-more (fitting own region) n
+      ∙ ap (λ (b : Bool). b && fitting own region n) (fits-all n)
+      ∙ sym (each-more n)
+      ∙ ap each (add-one n)
+
+-- one slot by what was read of it
+pub fits-read : (N a j : ℕ) (region : List ℕ) (k : ℕ) (mark : Bool) (key h : ℕ) → mark ≡ marked region (8 + 24 * k) (76 ∷ 82 ∷ []) → h ≡ hash N j key
+    → (mark && eqb h a) ≡ (slotUsed region k && keeps N a j key)
+fits-read N a j region k mark key h em eh = ap₂ _&&_ (em ∙ sym (used-is region k)) (ap (λ (x : ℕ). eqb x a) eh ∙ sym (keeps-is N a j key))
+
+pub fits-told : (own : ℕ → Bool) (region : List ℕ) (k key : ℕ) (fits b : Bool) → fits ≡ (slotUsed region k && own key) → key ≡ keyAt region k → fits ≡ b → fitting own region k ≡ b
+fits-told own region k key fits b e ek eb = sym (e ∙ ap (λ (x : ℕ). slotUsed region k && own x) ek) ∙ eb
 
 -- ---- keys compared with one another
 

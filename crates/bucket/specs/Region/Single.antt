@@ -3,7 +3,7 @@
 use Prim.Native.Nat.{ℕ, zero, suc, _+_, _*_, _/_, _%_, _-_, _≤_, _<_}
 use mathlib.Core.Path.{_≡_, refl, sym, ap, subst, _∙_}
 use mathlib.Core.Bool.{Bool, true, false, cond, not, _&&_, true≢false, false≢true}
-use mathlib.Core.List.{List, []}
+use mathlib.Core.List.{List}
 use mathlib.Core.Logic.{_⊎_, inl, inr, ⊎-elim}
 use native.Mathlib.Numerals.{add-one}
 use native.Mathlib.Omega.{arith}
@@ -13,10 +13,10 @@ use lib.ListN.{length, getD, set, replicate, length-set, length-replicate, getD-
 use lib.Seq.{getD-set-same, getD-set-other}
 use Rattle.address.specs.Compare.{below, same}
 use Rattle.layout.specs.Bytes.{allBelow, firstFrom}
-use Rattle.layout.specs.Bytes.Tests.{and-none, first-within, first-before, first-passes}
+use Rattle.layout.specs.Bytes.Tests.{and-none, and-both, all-fails, first-within, first-before, first-passes}
 use Rattle.bucket.specs.Region.{slotUsed, keyAt, ridesFrom, keysOf, every, distinct}
 use Rattle.bucket.specs.Region.Rides.{distinct-append}
-use Rattle.bucket.specs.Region.Judge.{keys-more, fresh-from, stands, distinct-later, Slotted, slots-done}
+use Rattle.bucket.specs.Region.Judge.{keys-more, fresh-from, stands, distinct-later, fitting, fits-all}
 
 -- A number below 512 of a key: its ride and its lift added in 32 bits, and of a product of that the upper nine of the lower 32 bits.
 pub fingerprint : ℕ → ℕ
@@ -318,16 +318,25 @@ pub record SlotsJudged (own : ℕ → Bool) (region : List ℕ) (count key : ℕ
   pub found : sound ≡ true → place ≡ firstFrom (λ i. eqb (keyAt region i) key) count 0
 
 module _ (own : ℕ → Bool) (region : List ℕ) (count key : ℕ) where
-  -- a double key makes it false
+  -- a slot that does not fit makes it false, and a double key
+  pub slots-unfit : (sound : Bool) (place : ℕ) → sound ≡ false → (k : ℕ) → k < count → fitting own region k ≡ false → SlotsJudged own region count key sound place
+  slots-unfit sound place bad k more unfit = record {
+    tested = bad ∙ sym (rw (sym (fits-all own region count) ∙ all-fails (fitting own region) count k more unfit));
+    found = λ e. absurd (false≢true (sym bad ∙ e));
+  }
+
   pub slots-double : (sound : Bool) (place : ℕ) → sound ≡ false → false ≡ distinct (keysOf (ridesFrom region 0 count)) → SlotsJudged own region count key sound place
   slots-double sound place bad double = record {
     tested = bad ∙ sym (and-none (allBelow (slotUsed region) count && every own (keysOf (ridesFrom region 0 count))) _ (sym double));
     found = λ e. absurd (false≢true (sym bad ∙ e));
   }
 
-  pub slots-single : (k : ℕ) (used belong : Bool) (place : ℕ) → Slotted own region count k used belong → count ≤ k → true ≡ distinct (keysOf (ridesFrom region 0 count))
-      → Placed region key count count place → SlotsJudged own region count key (used && belong) place
-  slots-single k used belong place so end single placed = record {
-    tested = slots-done own region count k used belong so end _ single;
+  pub slots-single : (k place : ℕ) → k ≤ count → count ≤ k → allBelow (fitting own region) k ≡ true → true ≡ distinct (keysOf (ridesFrom region 0 count))
+      → Placed region key count count place → SlotsJudged own region count key true place
+  slots-single k place within end fits single placed = record {
+    tested = sym (and-both _ _ (sym (fits-all own region count) ∙ ap (allBelow (fitting own region)) all ∙ fits) (sym single));
     found = λ e. place-done region key count place placed single;
   }
+    where
+      all : count ≡ k
+      all = omega arith

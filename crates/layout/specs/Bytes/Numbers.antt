@@ -1,7 +1,7 @@
 -- Numbers of several bytes: read after written, written after read, and read past a write. Each goes byte by byte.
 use Prim.Native.Nat.{ℕ, zero, suc, _+_, _*_, _/_, _%_, _^_, _≤_, _<_}
 use mathlib.Core.Path.{_≡_, refl, sym, ap, ap₂, _∙_}
-use mathlib.Core.Bool.{_&&_}
+use mathlib.Core.Bool.{Bool, _&&_, and-assoc, and-true}
 use mathlib.Core.List.{List, [], _∷_, _++_}
 use mathlib.Core.Logic.{by-cases}
 use native.Mathlib.Decide.{ℕ-discrete}
@@ -9,10 +9,11 @@ use native.Mathlib.Nat.{add-zero, zero-add, add-suc, suc-add, add-assoc, pow-suc
 use native.Mathlib.Numerals.{add-one, add-two, add-three, add-four, add-five, add-six, add-seven}
 use native.Mathlib.Omega.{arith}
 use borrow.Author.Tests.{eq-eqb, ne-eqb}
+use lib.Bits.{bitOr, or-zero-l, or-add-and, and-le-r}
 use lib.Dec.{eqb}
 use lib.ListN.{length, getD, drop}
 use lib.Seq.{drop-cons, getD-drop, getD-append-add}
-use Rattle.layout.specs.Bytes.{Bytes, leAt, leBytes, part}
+use Rattle.layout.specs.Bytes.{Bytes, leAt, leBytes, allBelow, part}
 use Rattle.layout.specs.Bytes.Edit.{part-at}
 
 pub length-leBytes : (n x : ℕ) → length (leBytes n x) ≡ n
@@ -110,3 +111,38 @@ two-same x y p q low high = by-cases (ℕ-discrete x p)
     (λ f. rw (eq-eqb (x + y * 256) (p + q * 256) (omega (arith, e, f)), eq-eqb x p e, eq-eqb y q f))
     (λ f. rw (ne-eqb (x + y * 256) (p + q * 256) (omega (arith, e, f)), eq-eqb x p e, ne-eqb y q f)))
     (λ e. rw (ne-eqb (x + y * 256) (p + q * 256) (omega (arith, e)), ne-eqb x p e))
+
+-- ---- zeros, eight bytes at a time
+
+sum-none : (x y : ℕ) → eqb (x + 256 * y) 0 ≡ (eqb x 0 && eqb y 0)
+sum-none x y = by-cases (ℕ-discrete x 0)
+    (λ e. by-cases (ℕ-discrete y 0)
+    (λ f. rw (eq-eqb x 0 e, eq-eqb y 0 f) (eq-eqb (x + 256 * y) 0 (omega arith)))
+    (λ f. rw (eq-eqb x 0 e, ne-eqb y 0 f) (ne-eqb (x + 256 * y) 0 (λ z. f (omega arith)))))
+    (λ e. rw (ne-eqb x 0 e) (ne-eqb (x + 256 * y) 0 (λ z. e (omega arith))))
+
+or-none : (a b : ℕ) → eqb (bitOr a b) 0 ≡ (eqb a 0 && eqb b 0)
+or-none a b = by-cases (ℕ-discrete a 0)
+    (λ e. rw (eq-eqb a 0 e) (ap (λ (x : ℕ). eqb (bitOr x b) 0) e ∙ ap (λ (x : ℕ). eqb x 0) (or-zero-l b)))
+    (λ e. rw (ne-eqb a 0 e) (ne-eqb (bitOr a b) 0 (λ z. e (omega (arith, or-add-and a b, and-le-r a b)))))
+
+-- the bytes before a place and the number there are zero if all these bytes are
+zero-number : (xs : List ℕ) (n at : ℕ) → allBelow (λ i. eqb (getD xs i 0) 0) (at + n) ≡ (allBelow (λ i. eqb (getD xs i 0) 0) at && eqb (leAt n xs at) 0)
+unfolding leAt allBelow
+zero-number xs zero at = ap (allBelow (λ i. eqb (getD xs i 0) 0)) (add-zero at) ∙ sym (and-true (allBelow (λ i. eqb (getD xs i 0) 0) at))
+zero-number xs (suc n) at =
+    ap (allBelow (λ i. eqb (getD xs i 0) 0)) (add-suc at n ∙ sym (suc-add at n))
+    ∙ zero-number xs n (suc at)
+    ∙ and-assoc (allBelow (λ i. eqb (getD xs i 0) 0) at) (eqb (getD xs at 0) 0) (eqb (leAt n xs (suc at)) 0)
+    ∙ ap (λ (b : Bool). allBelow (λ i. eqb (getD xs i 0) 0) at && b) (sym (sum-none (getD xs at 0) (leAt n xs (suc at))))
+
+pub words-more : (xs : List ℕ) (k seen word : ℕ) → eqb seen 0 ≡ allBelow (λ i. eqb (getD xs i 0) 0) (8 * k) → word ≡ leAt 8 xs (8 * k)
+    → eqb (bitOr seen word) 0 ≡ allBelow (λ i. eqb (getD xs i 0) 0) (8 * (k + 1))
+words-more xs k seen word so e =
+    or-none seen word
+    ∙ ap₂ _&&_ so (ap (λ (x : ℕ). eqb x 0) e)
+    ∙ sym (zero-number xs 8 (8 * k))
+    ∙ ap (allBelow (λ i. eqb (getD xs i 0) 0)) place
+  where
+    place : 8 * k + 8 ≡ 8 * (k + 1)
+    place = omega arith

@@ -1,6 +1,6 @@
 -- A scan is refused or accepted. Refused, it answers counts 0 and leaves both lists; accepted, it has written each bucket of the file once and nothing else,
 -- and of its lift exactly the keys that the file holds, each once; what stands behind them in the lists is as it was.
-use Prim.Native.Nat.{ℕ, _+_, _-_, _≤_, _<_}
+use Prim.Native.Nat.{ℕ, _-_, _≤_, _<_}
 use mathlib.Core.Path.{_≡_, refl, sym, ap, _∙_}
 use mathlib.Core.Bool.{Bool, true, false, cond}
 use mathlib.Core.List.{List, [], _∷_}

@@ -5,7 +5,7 @@ use mathlib.Core.Path.{_≡_, refl, sym, ap, ap₂, _∙_}
 use mathlib.Core.Bool.{Bool, true, false, cond}
 use mathlib.Core.List.{List, [], _∷_, _++_}
 use mathlib.Core.Logic.{⊎-elim}
-use native.Mathlib.Nat.{zero-add, pow-suc, pow-succ', div-one, div-div-eq-div-mul}
+use native.Mathlib.Nat.{pow-suc, pow-succ', div-one, div-div-eq-div-mul}
 use native.Mathlib.Omega.{arith}
 use lib.Count.{ones, ones-step, trailingZeros, under}
 use lib.Dec.{eqb}
@@ -32,28 +32,24 @@ selectedOn file [] bits = []
 selectedOn file (a ∷ way) [] = []
 selectedOn file (a ∷ way) (b ∷ bits) = selected b (keysIn file a) ++ selectedOn file way bits
 
+-- the lowest bit, and the others
+low-bit : (b : Bool) (rest : ℕ) → (cond b 1 0 + 2 * rest) % 2 ≡ cond b 1 0
+low-bit true rest = omega arith
+low-bit false rest = omega arith
+
+high-bits : (b : Bool) (rest : ℕ) → (cond b 1 0 + 2 * rest) / 2 ≡ rest
+high-bits true rest = omega arith
+high-bits false rest = omega arith
+
 pub select-match : (lift : ℕ) (keys : List ℕ) → selected (bitsOf lift keys) keys ≡ matching lift keys
 unfolding bitsOf selected matching
 select-match lift [] = refl
-select-match lift (key ∷ keys) = go (ofLift lift key) (select-match lift keys)
+select-match lift (key ∷ keys) = rw (low-bit (ofLift lift key) (bitsOf lift keys), high-bits (ofLift lift key) (bitsOf lift keys)) (go (ofLift lift key) (select-match lift keys))
   where
     go : (b : Bool) → selected (bitsOf lift keys) keys ≡ matching lift keys
-        → cond (eqb ((cond b 1 0 + 2 * bitsOf lift keys) % 2) 1) (key ∷ selected ((cond b 1 0 + 2 * bitsOf lift keys) / 2) keys) (selected ((cond b 1 0 + 2 * bitsOf lift keys) / 2) keys)
-        ≡ cond b (key ∷ matching lift keys) (matching lift keys)
-    go true rest = rw (odd, half) (ap (λ (l : List ℕ). key ∷ l) rest)
-      where
-        odd : (1 + 2 * bitsOf lift keys) % 2 ≡ 1
-        odd = omega arith
-
-        half : (1 + 2 * bitsOf lift keys) / 2 ≡ bitsOf lift keys
-        half = omega arith
-    go false rest = rw (even, half) rest
-      where
-        even : (0 + 2 * bitsOf lift keys) % 2 ≡ 0
-        even = omega arith
-
-        half : (0 + 2 * bitsOf lift keys) / 2 ≡ bitsOf lift keys
-        half = omega arith
+        → cond (eqb (cond b 1 0) 1) (key ∷ selected (bitsOf lift keys) keys) (selected (bitsOf lift keys) keys) ≡ cond b (key ∷ matching lift keys) (matching lift keys)
+    go true rest = ap (λ (l : List ℕ). key ∷ l) rest
+    go false rest = rest
 
 -- as many bits as keys, and as many set as match
 pub bits-few : (lift : ℕ) (keys : List ℕ) → bitsOf lift keys < 2 ^ length keys
@@ -72,24 +68,13 @@ ones-none = refl
 pub bits-count : (lift : ℕ) (keys : List ℕ) → ones (bitsOf lift keys) ≡ length (matching lift keys)
 unfolding bitsOf matching
 bits-count lift [] = ones-none
-bits-count lift (key ∷ keys) = go (ofLift lift key) (bits-count lift keys)
+bits-count lift (key ∷ keys) = ones-step (cond (ofLift lift key) 1 0 + 2 * bitsOf lift keys)
+    ∙ rw (low-bit (ofLift lift key) (bitsOf lift keys), high-bits (ofLift lift key) (bitsOf lift keys)) (go (ofLift lift key) (bits-count lift keys))
   where
     go : (b : Bool) → ones (bitsOf lift keys) ≡ length (matching lift keys)
-        → ones (cond b 1 0 + 2 * bitsOf lift keys) ≡ length (cond b (key ∷ matching lift keys) (matching lift keys))
-    go true rest = ones-step (1 + 2 * bitsOf lift keys) ∙ rw (odd, half) (omega (arith, rest))
-      where
-        odd : (1 + 2 * bitsOf lift keys) % 2 ≡ 1
-        odd = omega arith
-
-        half : (1 + 2 * bitsOf lift keys) / 2 ≡ bitsOf lift keys
-        half = omega arith
-    go false rest = ones-step (0 + 2 * bitsOf lift keys) ∙ rw (even, half) (zero-add (ones (bitsOf lift keys)) ∙ rest)
-      where
-        even : (0 + 2 * bitsOf lift keys) % 2 ≡ 0
-        even = omega arith
-
-        half : (0 + 2 * bitsOf lift keys) / 2 ≡ bitsOf lift keys
-        half = omega arith
+        → cond b 1 0 + ones (bitsOf lift keys) ≡ length (cond b (key ∷ matching lift keys) (matching lift keys))
+    go true rest = omega (arith, rest)
+    go false rest = omega (arith, rest)
 
 -- ---- the bits are found from the last key to the first
 
