@@ -1,4 +1,4 @@
--- `scan::judge_way`: what is left of the way is judged and counted as the whole, and of the rest it is noted which keys match; it ends at the first unsound bucket.
+-- `scan::judge_way`: what is left of the way is judged and counted as the whole, and of the buckets before it is noted which keys match; it ends at the first unsound bucket.
 use borrow.Author.Needs.{needs}
 use Prim.Native.Nat.{_-_}
 use mathlib.Core.Path.{_≡_, refl, sym, _∙_}

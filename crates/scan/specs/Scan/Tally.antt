@@ -82,7 +82,7 @@ pub record Judged (file : List ℕ) (lift : ℕ) (way : List ℕ) (sound : Bool)
   pub found : sound ≡ true → matches ≡ length (matchesOn file lift way)
   pub noted : sound ≡ true → Noted file lift way bits (length way)
 
--- the judging loop: what is left of the way is judged and counted as the whole, and of the rest it is noted which keys match
+-- the judging loop: what is left of the way is judged and counted as the whole, and of the buckets before it is noted which keys match
 pub record Tallied (file : List ℕ) (lift : ℕ) (way : List ℕ) (k found : ℕ) (bits : List ℕ) : Type 0 where
   pub within : k ≤ length way
   pub long : length way ≤ length bits
