@@ -4,6 +4,7 @@ pub mod Keep
 pub mod Rides
 pub mod Divide
 pub mod Encode
+pub mod Held
 pub mod Single
 pub mod Sound
 pub mod Write

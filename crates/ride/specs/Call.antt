@@ -1,6 +1,7 @@
 -- Insert and search as document 01 has them: the refusals in their order, and what is left of answer block, table and file.
 pub mod After
 pub mod Kept
+pub mod Left
 pub mod Replied
 use Prim.Native.Nat.{ℕ, suc}
 use mathlib.Core.Bool.{Bool, cond, not, _&&_}

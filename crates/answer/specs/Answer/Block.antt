@@ -10,8 +10,8 @@ use lib.ListN.{length, getD, drop, replicate}
 use Rattle.address.specs.Limits.{noBucket}
 use Rattle.address.specs.Rules.{forwards}
 use Rattle.address.specs.Rules.Route.{forwards-is}
-use Rattle.layout.specs.Bytes.{edit}
-use Rattle.layout.specs.Bytes.Edit.{edit-seam}
+use Rattle.layout.specs.Bytes.{edit, part}
+use Rattle.layout.specs.Bytes.Edit.{edit-seam, part-edit}
 use Rattle.layout.specs.Bytes.Numbers.{leBytes-two}
 use Rattle.route.specs.declared.Walk.{Walk}
 use Rattle.route.specs.Way.{noted}
@@ -61,3 +61,15 @@ forwards-block r flag way payload long = rw (block-bytes r flag way payload)
   where
     whole : List ℕ
     whole = blockBytes r flag (length way) (getD way 0 noBucket) (getD way 1 noBucket) (getD way 2 noBucket) payload
+
+-- a block is 24 bytes long, and its payload stands at byte 10
+pub length-block : (r flag : ℕ) (way payload : List ℕ) → length payload ≡ 14 → length (block r way flag payload) ≡ 24
+length-block r flag way payload long = rw (block-bytes r flag way payload) (omega (arith, long))
+
+pub none-long : length noPayload ≡ 14
+unfolding noPayload
+none-long = refl
+
+pub payload-back : (r flag : ℕ) (way payload : List ℕ) → length payload ≡ 14 → part 10 14 (block r way flag payload) ≡ payload
+payload-back r flag way payload long = ap (part 10 14) (sym (block-payload r flag way payload long)) ∙ ap (λ (n : ℕ). part 10 n (edit 10 payload (block r way flag noPayload))) (sym long)
+    ∙ part-edit 10 payload (block r way flag noPayload) (omega (arith, long, length-block r flag way noPayload none-long))

@@ -8,7 +8,7 @@ use mathlib.Core.Logic.{by-cases}
 use native.Mathlib.Decide.{ℕ-discrete, decLt}
 use native.Mathlib.Nat.{add-zero}
 use native.Mathlib.Omega.{arith}
-use borrow.Author.Tests.{lt-ltb, le-leb}
+use borrow.Author.Tests.{lt-ltb, ltb-true, le-leb}
 use lib.Dec.{leb, ltb, eqb}
 use lib.ListN.{length, getD}
 use Rattle.address.specs.Limits.{firstBuckets, mostLevel}
@@ -19,35 +19,42 @@ use Rattle.layout.specs.Bytes.{leAt, edit}
 use Rattle.layout.specs.Bytes.Tests.{and-left, and-right, and-both, all-at, all-of}
 use Rattle.layout.specs.Bytes.Edit.{length-edit, edit-before, edit-in, edit-after}
 use Rattle.layout.specs.Bytes.Numbers.{le-two, leBytes-two}
-use Rattle.client.specs.Table.{lengthSound, imageOf, recordFormed, imageFormed, recordSound, tableSound, imageBytes, withImage}
+use Rattle.layout.specs.Replies.{reply}
+use Rattle.client.specs.Table.{lengthSound, exists, imageOf, recordFormed, imageFormed, recordSound, tableSound, tableRefusals, imageBytes, withImage}
+use Rattle.client.specs.Table.Laws.{record-fits, not-refused}
 
 -- the eight bytes of an image
 bytes-is : (image : Image) → imageBytes image ≡ 76 ∷ 67 ∷ image .level ∷ 0 ∷ image .pointer % 256 ∷ image .pointer / 256 % 256 ∷ 0 ∷ 0 ∷ []
 unfolding imageBytes
 bytes-is image = rw (leBytes-two (image .pointer))
 
--- two records of the same bytes
-record-same : (table other : List ℕ) (client : ℕ) → ((k : ℕ) → k < 8 → getD other (8 * client + k) 0 ≡ getD table (8 * client + k) 0) → recordSound other client ≡ recordSound table client
-unfolding recordSound recordFormed imageOf
-record-same table other client same =
-    ap₂ _&&_
-    (ap₂ _&&_
-    (ap₂ _&&_ (ap₂ _&&_ (ap₂ _&&_ (ap (λ (x : ℕ). eqb x 76) first) (ap (λ (x : ℕ). eqb x 67) (same 1 (omega arith)))) (ap (λ (x : ℕ). eqb x 0) (same 3 (omega arith))))
-    (ap (λ (x : ℕ). eqb x 0) (same 6 (omega arith))))
-    (ap (λ (x : ℕ). eqb x 0) (same 7 (omega arith))))
-    (ap₂ (λ (l p : ℕ). imageFormed («at» l p)) (same 2 (omega arith)) number)
-  where
-    first : getD other (8 * client) 0 ≡ getD table (8 * client) 0
-    first = ap (λ (i : ℕ). getD other i 0) (sym (add-zero (8 * client))) ∙ same 0 (omega arith) ∙ ap (λ (i : ℕ). getD table i 0) (add-zero (8 * client))
+-- two records of the same bytes have the same image, and are judged alike
+module _ (table other : List ℕ) (client : ℕ) (same : (k : ℕ) → k < 8 → getD other (8 * client + k) 0 ≡ getD table (8 * client + k) 0) where
+  image-same : imageOf other client ≡ imageOf table client
+  unfolding imageOf
+  image-same = λ i. record { level = same 2 (omega arith) i; pointer = number i }
+    where
+      later : (l : List ℕ) → getD l (8 * client + 4 + 1) 0 ≡ getD l (8 * client + 5) 0
+      later l = ap (λ (i : ℕ). getD l i 0) next
+        where
+          next : 8 * client + 4 + 1 ≡ 8 * client + 5
+          next = omega arith
 
-    number : leAt 2 other (8 * client + 4) ≡ leAt 2 table (8 * client + 4)
-    number = sym (le-two other (8 * client + 4)) ∙ ap₂ (λ (x y : ℕ). x + y * 256) (same 4 (omega arith)) (later other ∙ same 5 (omega arith) ∙ sym (later table)) ∙ le-two table (8 * client + 4)
-      where
-        later : (l : List ℕ) → getD l (8 * client + 4 + 1) 0 ≡ getD l (8 * client + 5) 0
-        later l = ap (λ (i : ℕ). getD l i 0) next
-          where
-            next : 8 * client + 4 + 1 ≡ 8 * client + 5
-            next = omega arith
+      number : leAt 2 other (8 * client + 4) ≡ leAt 2 table (8 * client + 4)
+      number = sym (le-two other (8 * client + 4)) ∙ ap₂ (λ (x y : ℕ). x + y * 256) (same 4 (omega arith)) (later other ∙ same 5 (omega arith) ∙ sym (later table)) ∙ le-two table (8 * client + 4)
+
+  record-same : recordSound other client ≡ recordSound table client
+  unfolding recordSound recordFormed
+  record-same =
+      ap₂ _&&_
+      (ap₂ _&&_
+      (ap₂ _&&_ (ap₂ _&&_ (ap₂ _&&_ (ap (λ (x : ℕ). eqb x 76) first) (ap (λ (x : ℕ). eqb x 67) (same 1 (omega arith)))) (ap (λ (x : ℕ). eqb x 0) (same 3 (omega arith))))
+      (ap (λ (x : ℕ). eqb x 0) (same 6 (omega arith))))
+      (ap (λ (x : ℕ). eqb x 0) (same 7 (omega arith))))
+      (ap imageFormed image-same)
+    where
+      first : getD other (8 * client) 0 ≡ getD table (8 * client) 0
+      first = ap (λ (i : ℕ). getD other i 0) (sym (add-zero (8 * client))) ∙ same 0 (omega arith) ∙ ap (λ (i : ℕ). getD table i 0) (add-zero (8 * client))
 
 module _ (table : List ℕ) (client : ℕ) (image : Image) (fits : 8 * client + 8 ≤ length table) where
   long : length (imageBytes image) ≡ 8
@@ -60,18 +67,29 @@ module _ (table : List ℕ) (client : ℕ) (image : Image) (fits : 8 * client + 
   unfolding withImage
   written-length = length-edit (8 * client) (imageBytes image) table room
 
+  pub written-exists : (other : ℕ) → exists (withImage table client image) other ≡ exists table other
+  unfolding exists
+  written-exists other = ap (λ (n : ℕ). ltb other (n / 8)) written-length
+
   -- byte k of the record is byte k of the image
   byte-here : (k : ℕ) → k < 8 → getD (withImage table client image) (8 * client + k) 0
       ≡ getD (76 ∷ 67 ∷ image .level ∷ 0 ∷ image .pointer % 256 ∷ image .pointer / 256 % 256 ∷ 0 ∷ 0 ∷ []) k 0
   unfolding withImage
   byte-here k h = edit-in (8 * client) (imageBytes image) table room k (omega (arith, long)) ∙ ap (λ (l : List ℕ). getD l k 0) (bytes-is image)
 
-  pub written-other : (other : ℕ) → (other ≡ client → ⊥) → recordSound (withImage table client image) other ≡ recordSound table other
-  unfolding withImage
-  written-other other apart = record-same table (edit (8 * client) (imageBytes image) table) other
-      (λ k h. by-cases (decLt other client)
-      (λ l. edit-before (8 * client) (imageBytes image) table room (8 * other + k) (omega arith))
-      (λ l. edit-after (8 * client) (imageBytes image) table room (8 * other + k) (omega (arith, long, apart))))
+  -- every other record stays as it was, byte by byte
+  module _ (other : ℕ) (apart : other ≡ client → ⊥) where
+    byte-kept : (k : ℕ) → k < 8 → getD (withImage table client image) (8 * other + k) 0 ≡ getD table (8 * other + k) 0
+    unfolding withImage
+    byte-kept k h = by-cases (decLt other client)
+        (λ l. edit-before (8 * client) (imageBytes image) table room (8 * other + k) (omega arith))
+        (λ l. edit-after (8 * client) (imageBytes image) table room (8 * other + k) (omega (arith, long, apart)))
+
+    pub written-other : recordSound (withImage table client image) other ≡ recordSound table other
+    written-other = record-same table (withImage table client image) other byte-kept
+
+    pub other-image : imageOf (withImage table client image) other ≡ imageOf table other
+    other-image = image-same table (withImage table client image) other byte-kept
 
   module _ (low : image .level ≤ mostLevel) (formed : Formed firstBuckets image) where
     small : image .pointer < 65536
@@ -114,3 +132,17 @@ module _ (table : List ℕ) (client : ℕ) (image : Image) (fits : 8 * client + 
         each k l = by-cases (ℕ-discrete k client)
             (λ e. ap (recordSound (withImage table client image)) e ∙ written-sound)
             (λ apart. written-other k apart ∙ all-at (recordSound table) (length table / 8) k (and-right (lengthSound table) _ h) (omega (arith, l, ap (λ (n : ℕ). n / 8) written-length)))
+
+-- each record of a sound table is sound, and its client is not refused by the table
+pub sound-record : (table : List ℕ) → tableSound table ≡ true → (client : ℕ) → exists table client ≡ true → recordSound table client ≡ true
+unfolding tableSound exists
+sound-record table sound client there = all-at (recordSound table) (length table / 8) client (and-right (lengthSound table) _ sound) (ltb-true _ _ there)
+
+pub sound-client : (table : List ℕ) → tableSound table ≡ true → (client : ℕ) → exists table client ≡ true → reply (tableRefusals table client) 0 ≡ 0
+unfolding tableSound exists
+sound-client table sound client there = not-refused table client (and-left (lengthSound table) _ sound) (ltb-true _ _ there)
+
+-- a client that the table does not refuse exists
+pub client-exists : (table : List ℕ) (client : ℕ) → reply (tableRefusals table client) 0 ≡ 0 → exists table client ≡ true
+unfolding exists
+client-exists table client h = lt-ltb client (length table / 8) (omega (arith, record-fits table client h))

@@ -1,10 +1,10 @@
 -- The table's refusals by their cases, and what each function of the crate shows, over plain values.
 use Prim.Native.Nat.{ℕ, _+_, _*_, _/_, _%_, _≤_, _<_}
-use mathlib.Core.Path.{_≡_, refl, sym, ap, ap₂, _∙_}
+use mathlib.Core.Path.{_≡_, refl, sym, ap, ap₂, subst, _∙_}
 use mathlib.Core.Bool.{Bool, true, false, cond, not, _&&_}
 use mathlib.Core.List.{List, [], _∷_, _++_}
 use mathlib.Core.Logic.{by-cases}
-use native.Mathlib.Decide.{decLt}
+use native.Mathlib.Decide.{ℕ-discrete, decLt}
 use native.Mathlib.Omega.{arith}
 use borrow.Author.Tests.{lt-ltb, le-ltb, le-leb, lt-leb, ltb-true, leb-true, eq-eqb, ne-eqb}
 use lib.Dec.{leb, ltb, eqb}
@@ -16,7 +16,7 @@ use Rattle.layout.specs.Bytes.{byteAt, leAt, leBytes, marked, edit}
 use Rattle.layout.specs.Bytes.Tests.{and-left, and-right}
 use Rattle.layout.specs.Bytes.Edit.{edit-next}
 use Rattle.layout.specs.Bytes.Numbers.{leBytes-two}
-use Rattle.layout.specs.Replies.{reply, reply-is, reply-none, reply-here, reply-past}
+use Rattle.layout.specs.Replies.{Numbers, reply, reply-none, reply-here, reply-past, reply-else}
 use Rattle.client.specs.Table.{clientMark, lengthSound, exists, imageOf, recordFormed, imageFormed, recordSound, tableRefusals, imageBytes, withImage, Joined, join}
 
 module _ (table : List ℕ) (client : ℕ) where
@@ -33,27 +33,20 @@ module _ (table : List ℕ) (client : ℕ) where
   unfolding tableRefusals exists
   not-refused h l = reply-past 2 _ _ 0 (ap not h) ∙ reply-past 3 _ _ 0 (ap not (lt-ltb client (length table / 8) l)) ∙ reply-none 0
 
-  two-tests : (done : ℕ) → reply (tableRefusals table client) done ≡ cond (not (lengthSound table)) 2 (cond (not (exists table client)) 3 done)
+  -- its numbers are 2 and 3
+  pub table-numbers : (P : ℕ → Type 0) → P 2 → P 3 → Numbers P (tableRefusals table client)
   unfolding tableRefusals
-  two-tests done = reply-is 2 _ _ done
-      ∙ ap (λ (n : ℕ). cond (not (lengthSound table)) 2 n) (reply-is 3 (not (exists table client)) [] done ∙ ap (λ (n : ℕ). cond (not (exists table client)) 3 n) (reply-none done))
+  table-numbers P two three = (two, (three, tt))
+
+  decided : (done : ℕ) → reply (tableRefusals table client) done ≡ cond (eqb (reply (tableRefusals table client) 0) 0) done (reply (tableRefusals table client) 0)
+  decided = reply-else (tableRefusals table client) (table-numbers (λ n. n ≡ 0 → ⊥) (λ e. omega (arith, e)) (λ e. omega (arith, e)))
 
   -- a table that is refused is refused whatever comes after, and one that is not passes it on
   pub table-refused : (r : ℕ) → reply (tableRefusals table client) 0 ≡ r → (r ≡ 0 → ⊥) → (done : ℕ) → reply (tableRefusals table client) done ≡ r
-  table-refused r e some done = two-tests done ∙ go (lengthSound table) (exists table client) (sym (two-tests 0) ∙ e)
-    where
-      go : (l x : Bool) → cond (not l) 2 (cond (not x) 3 0) ≡ r → cond (not l) 2 (cond (not x) 3 done) ≡ r
-      go false x e = e
-      go true false e = e
-      go true true e = absurd (some (sym e))
+  table-refused r e some done = decided done ∙ ap (λ (n : ℕ). cond (eqb n 0) done n) e ∙ ap (λ (b : Bool). cond b done r) (ne-eqb r 0 some)
 
   pub table-passes : reply (tableRefusals table client) 0 ≡ 0 → (done : ℕ) → reply (tableRefusals table client) done ≡ done
-  table-passes e done = two-tests done ∙ go (lengthSound table) (exists table client) (sym (two-tests 0) ∙ e)
-    where
-      go : (l x : Bool) → _≡_ {A = ℕ} (cond (not l) 2 (cond (not x) 3 0)) 0 → cond (not l) 2 (cond (not x) 3 done) ≡ done
-      go false x e = absurd (omega arith)
-      go true false e = absurd (omega arith)
-      go true true e = refl
+  table-passes e done = decided done ∙ ap (λ (n : ℕ). cond (eqb n 0) done n) e
 
   pub length-flag : (flag : Bool) → flag ≡ (ltb 0 (length table) && leb (length table) 2048 && eqb (length table % 8) 0) → flag ≡ lengthSound table
   unfolding lengthSound
@@ -119,6 +112,22 @@ pub join-done : (table after : List ℕ) (client r : ℕ) → r ≡ reply (table
     → record { answer = 0; table = after } ≡ join table client
 unfolding join
 join-done table after client r e none w = λ i. record { answer = (sym none ∙ e) i; table = (w ∙ sym (ap (λ (b : Bool). cond b (withImage table client («at» 0 0)) table) (eq-eqb (reply (tableRefusals table client) 0) 0 (sym e ∙ none)))) i }
+
+-- its reply is the first refusal of the table; the table is written, or as it was
+pub join-reply : (table : List ℕ) (client : ℕ) → join table client .answer ≡ reply (tableRefusals table client) 0
+unfolding join
+join-reply table client = refl
+
+pub join-ways : (P : Joined → Type 0) (table : List ℕ) (client : ℕ)
+    → ((r : ℕ) → r ≡ reply (tableRefusals table client) 0 → (r ≡ 0 → ⊥) → P (record { answer = r; table = table }))
+    → (reply (tableRefusals table client) 0 ≡ 0 → P (record { answer = 0; table = withImage table client («at» 0 0) }))
+    → P (join table client)
+join-ways P table client refused done = by-cases (ℕ-discrete r 0)
+    (λ e. subst P (join-done table _ client r refl e refl) (done e))
+    (λ some. subst P (join-refused table client r refl some) (refused r refl some))
+  where
+    r : ℕ
+    r = reply (tableRefusals table client) 0
 
 pub join-single : (table : List ℕ) (client : ℕ) (o p : Joined) → o ≡ join table client → p ≡ join table client → o ≡ p
 join-single table client o p eo ep = eo ∙ sym ep

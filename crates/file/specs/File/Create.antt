@@ -1,7 +1,7 @@
 -- Create writes the created file, byte by byte, and that file is sound.
 use Prim.Native.Nat.{ℕ, zero, suc, _+_, _*_, _-_, _/_, _%_, _≤_, _<_}
 use mathlib.Core.Path.{_≡_, refl, sym, ap, ap₂, _∙_}
-use mathlib.Core.Bool.{true, false, _&&_}
+use mathlib.Core.Bool.{Bool, true, false, cond, not, _&&_}
 use mathlib.Core.List.{List, [], _∷_, _++_}
 use native.Mathlib.Nat.{suc-mul, add-comm, mul-le-mul-right}
 use mathlib.Core.Logic.{by-cases}
@@ -19,6 +19,7 @@ use Rattle.layout.specs.Bytes.{leBytes, marked, allBelow, allZero, edit, part}
 use Rattle.layout.specs.Bytes.Tests.{and-both, replicate-zero, zero-all, all-of}
 use Rattle.layout.specs.Bytes.Edit.{edit-seam, part-seam, part-at, length-part}
 use Rattle.layout.specs.Bytes.Numbers.{leBytes-two, le-two}
+use Rattle.layout.specs.Replies.{refuse, reply, reply-none, reply-here, reply-past}
 use Rattle.bucket.specs.Region.{slotAt, bucketSound, encode}
 use Rattle.bucket.specs.Region.Sound.{empty-sound}
 use Rattle.bucket.specs.Region.Encode.{length-encode}
@@ -98,6 +99,24 @@ create-refused file b S M h = rw h
 pub create-done : (file after : List ℕ) (b S M : ℕ) → figuresFit (length file) b S M ≡ true → after ≡ created b S M → record { answer = 0; file = after } ≡ create file b S M
 unfolding create
 create-done file after b S M h e = rw h (λ i. record { answer = 0; file = e i })
+
+-- its reply, as document 01 lists it
+pub create-reply : (file : List ℕ) (b S M : ℕ) → create file b S M .answer ≡ reply (refuse 13 (not (figuresFit (length file) b S M)) ∷ []) 0
+unfolding create
+create-reply file b S M = go (figuresFit (length file) b S M)
+  where
+    go : (fits : Bool) → cond {A = Created} fits (record { answer = 0; file = created b S M }) (record { answer = 13; file = file }) .answer ≡ reply (refuse 13 (not fits) ∷ []) 0
+    go true = sym (reply-past 13 false _ 0 refl ∙ reply-none 0)
+    go false = sym (reply-here 13 true _ 0 refl)
+
+pub create-left : (file : List ℕ) (b S M : ℕ) → create file b S M .answer ≡ 13 → create file b S M .file ≡ file
+unfolding create
+create-left file b S M = go (figuresFit (length file) b S M)
+  where
+    go : (fits : Bool) → cond {A = Created} fits (record { answer = 0; file = created b S M }) (record { answer = 13; file = file }) .answer ≡ 13
+        → cond {A = Created} fits (record { answer = 0; file = created b S M }) (record { answer = 13; file = file }) .file ≡ file
+    go true e = absurd (omega (arith, e))
+    go false e = refl
 
 pub create-single : (file : List ℕ) (b S M : ℕ) (o p : Created) → o ≡ create file b S M → p ≡ create file b S M → o ≡ p
 create-single file b S M o p eo ep = eo ∙ sym ep

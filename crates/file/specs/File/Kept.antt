@@ -13,6 +13,7 @@ use lib.ListN.{length, length-append}
 use Rattle.address.specs.Limits.{firstBuckets}
 use Rattle.address.specs.declared.Image.{Image}
 use Rattle.address.specs.Rules.{Formed, address, level, buckets, keeps, newborn, grown}
+use Rattle.address.specs.Rules.Cases.{level-high}
 use Rattle.address.specs.Rules.Hash.{span-pos}
 use Rattle.address.specs.Rules.Grow.{newborn-next, grown-formed, grown-buckets, level-old, level-newborn, level-other}
 use Rattle.layout.specs.Bytes.{Bytes, allBelow, allZero}
@@ -21,11 +22,12 @@ use Rattle.bucket.specs.Region.{Ride, Whole, slotAt, countOf, ridesOf, keysOf, 
 use Rattle.bucket.specs.Region.Rides.{AllWhole, whole-append, kept-whole, kept-lengths}
 use Rattle.bucket.specs.Region.Sound.{rides-encode}
 use Rattle.bucket.specs.Region.Encode.{length-encode}
+use Rattle.bucket.specs.Region.Held.{encode-bytes}
 use Rattle.bucket.specs.Region.Keep.{bucket-placed, bucket-divided, bucket-alike}
 use Rattle.file.specs.File.{mostOf, slotsOf, stateOf, bucketsOf, headerSound, regionOf, bucketSoundIn, regionSound, fileSound, withRegion, withRide, withState, staying, divided}
 use Rattle.file.specs.File.Judge.{Ranges, header-ranges, buckets-of, state-back, state-small}
 use Rattle.file.specs.File.Region.{region-bucket, region-past}
-use Rattle.file.specs.File.Write.{Shown, shown, with-slots, with-state, with-sound, with-most, with-here, with-other, state-slots, state-most, state-back-again, state-header, state-region}
+use Rattle.file.specs.File.Write.{Shown, shown, with-slots, with-state, with-sound, with-most, with-here, with-other, with-bytes, state-slots, state-most, state-back-again, state-header, state-region, state-bytes}
 use Rattle.file.specs.File.Split.{moves}
 
 -- a sound file's header and regions
@@ -120,6 +122,15 @@ module _ (file : List ℕ) (bytes : Bytes file) (sound : fileSound file ≡ true
   pub others-held : (b : ℕ) → b < mostOf file → (b ≡ a → ⊥) → regionOf (withRide file a ride) b ≡ regionOf file b
   unfolding withRide region rides
   others-held b l other = with-other file seen a there region long b l other
+
+  -- the state is the same, and bytes stay bytes
+  pub ride-state : stateOf (withRide file a ride) ≡ stateOf file
+  unfolding withRide region rides
+  ride-state = with-state file seen a there region long
+
+  pub ride-bytes : Bytes (withRide file a ride)
+  unfolding withRide region rides
+  ride-bytes = with-bytes file seen a there region long (encode-bytes (slotsOf file) (level firstBuckets (stateOf file) a) rides (omega (arith, level-high firstBuckets (stateOf file) a, seen .low)) all) bytes
 
 -- ---- split
 
@@ -319,6 +330,28 @@ module _ (file : List ℕ) (bytes : Bytes file) (sound : fileSound file ≡ true
 
   pub split-state : stateOf (divided file) ≡ grown firstBuckets (stateOf file)
   split-state = ap stateOf three-is ∙ three-state
+
+  -- bytes stay bytes
+  half-bytes : (a : ℕ) → Bytes (half a)
+  unfolding half
+  half-bytes a = encode-bytes (slotsOf file) (suc (stateOf file .level)) (kept (keeps firstBuckets a (suc (stateOf file .level))) (ridesOf source)) (omega (arith, ranges .low))
+      (kept-whole (keeps firstBuckets a (suc (stateOf file .level))) (ridesOf source) source-whole)
+
+  one-bytes : Bytes one
+  unfolding one
+  one-bytes = with-bytes file ranges (stateOf file .pointer) old-in (half (stateOf file .pointer)) (half-long (stateOf file .pointer)) (half-bytes (stateOf file .pointer)) bytes
+
+  two-bytes : Bytes two
+  unfolding two
+  two-bytes = with-bytes one (header-ranges one one-sound) (newborn firstBuckets (stateOf file)) new-in (half (newborn firstBuckets (stateOf file))) new-long
+      (half-bytes (newborn firstBuckets (stateOf file))) one-bytes
+
+  three-bytes : Bytes three
+  unfolding three
+  three-bytes = state-bytes two (grown firstBuckets (stateOf file)) headed low (omega (arith, next-small)) two-bytes
+
+  pub split-bytes : Bytes (divided file)
+  split-bytes = rw three-is three-bytes
 
   -- what the two buckets then hold, and that every other region stays
   half-rides : (a : ℕ) → ridesOf (half a) ≡ kept (keeps firstBuckets a (suc (stateOf file .level))) (ridesOf source)

@@ -2,7 +2,7 @@
 use Prim.Native.Nat.{ℕ, _+_, _*_, _-_, _≤_, _<_}
 use mathlib.Core.Path.{_≡_, refl, sym, ap, ap₂, _∙_}
 use mathlib.Core.Bool.{Bool, true, false, cond, not, _&&_}
-use mathlib.Core.List.{List, []}
+use mathlib.Core.List.{List, [], _∷_}
 use native.Mathlib.Nat.{mul-le-mul, mul-le-mul-right}
 use native.Mathlib.Omega.{arith}
 use borrow.Author.Tests.{lt-ltb, le-ltb, ltb-true, ltb-false, not-true, not-false}
@@ -17,6 +17,7 @@ use Rattle.layout.specs.Bytes.{leAt, allBelow, allZero, firstFrom, part}
 use Rattle.layout.specs.Bytes.Tests.{all-of, all-fails, first-here, first-later, first-none, first-passes, first-before}
 use Rattle.layout.specs.Bytes.Edit.{part-is, length-part}
 use Rattle.layout.specs.Bytes.Numbers.{le-part}
+use Rattle.layout.specs.Replies.{refuse, reply, reply-none, reply-here, reply-past}
 use Rattle.bucket.specs.Region.{slotAt, countOf, soundWith}
 use Rattle.bucket.specs.Region.Sound.{bucket-judged, bucket-few}
 use Rattle.file.specs.declared.Header.{Header}
@@ -128,6 +129,18 @@ check-region file h k e l = rw (h, lt-ltb (lowestUnsound file) (mostOf file) (om
 pub check-none : (file : List ℕ) → headerSound file ≡ true → (k : ℕ) → k ≡ lowestUnsound file → mostOf file ≤ k → record { answer = 0; bucket = noBucket } ≡ check file
 unfolding check
 check-none file h k e l = rw (h, le-ltb (lowestUnsound file) (mostOf file) (omega arith))
+
+-- its reply, as document 01 lists it
+pub check-reply : (file : List ℕ) → check file .answer ≡ reply (refuse 5 (not (headerSound file)) ∷ refuse 7 (ltb (lowestUnsound file) (mostOf file)) ∷ []) 0
+unfolding check
+check-reply file = go (headerSound file) (ltb (lowestUnsound file) (mostOf file))
+  where
+    go : (header some : Bool) → cond {A = Checked} (not header) (record { answer = 5; bucket = noBucket })
+        (cond {A = Checked} some (record { answer = 7; bucket = lowestUnsound file }) (record { answer = 0; bucket = noBucket })) .answer
+        ≡ reply (refuse 5 (not header) ∷ refuse 7 some ∷ []) 0
+    go false some = sym (reply-here 5 true _ 0 refl)
+    go true true = sym (reply-past 5 false _ 0 refl ∙ reply-here 7 true _ 0 refl)
+    go true false = sym (reply-past 5 false _ 0 refl ∙ reply-past 7 false _ 0 refl ∙ reply-none 0)
 
 -- no second outcome fits
 pub check-single : (file : List ℕ) (o p : Checked) → o ≡ check file → p ≡ check file → o ≡ p

@@ -1,14 +1,15 @@
 -- A split: the rides that move are just those that belong to the new bucket, and the writes in turn are the divided file.
 use Prim.Native.Nat.{ℕ, suc, _+_, _≤_, _<_}
 use mathlib.Core.Path.{_≡_, refl, sym, ap, ap₂, subst, _∙_}
-use mathlib.Core.Bool.{Bool, true, false, not}
-use mathlib.Core.List.{List}
-use mathlib.Core.Logic.{⊎-elim}
+use mathlib.Core.Bool.{Bool, true, false, cond, not}
+use mathlib.Core.List.{List, [], _∷_}
+use mathlib.Core.Logic.{_⊎_, inl, inr, ⊎-elim}
 use native.Mathlib.Numerals.{add-one}
 use native.Mathlib.Omega.{arith}
 use borrow.Author.Tests.{eqb-true, le-leb, lt-leb}
-use lib.Dec.{eqb}
+use lib.Dec.{leb, eqb}
 use lib.ListN.{length}
+use Rattle.address.specs.Compare.{below}
 use Rattle.address.specs.Limits.{firstBuckets, noBucket}
 use Rattle.address.specs.declared.Image.{Image}
 use Rattle.address.specs.Rules.{Formed, address, level, keeps, newborn, grown}
@@ -16,6 +17,7 @@ use Rattle.address.specs.Rules.Hash.{span-pos}
 use Rattle.address.specs.Rules.Cases.{keeps-yes, keeps-no, newborn-is}
 use Rattle.address.specs.Rules.Grow.{divided-cases, newborn-next, grown-formed, grown-buckets}
 use Rattle.layout.specs.Bytes.{Bytes, allZero, edit, part}
+use Rattle.layout.specs.Replies.{refuse, reply, reply-none, reply-here, reply-past}
 use Rattle.bucket.specs.Region.{Ride, slotAt, countOf, ridesOf, keysOf, every, encode, kept}
 use Rattle.bucket.specs.Region.Divide.{Halves}
 use Rattle.bucket.specs.Region.Rides.{kept-whole, kept-lengths}
@@ -185,6 +187,53 @@ module _ (file : List ℕ) where
         unfolding split
         split-done h after ea = rw (sound, lt-leb (mostOf file) (bucketsOf file) room, ap (bucketSoundIn file) (sym eo) ∙ good, ap (λ (a : ℕ). allZero (regionOf file a)) (sym en) ∙ h)
             (λ i. record { answer = 0; old = eo i; new = en i; file = ea i })
+
+  -- its reply, as document 01 lists it
+  pub split-reply : split file .answer ≡ reply (
+      refuse 5 (not (headerSound file))
+      ∷ refuse 10 (leb (mostOf file) (bucketsOf file))
+      ∷ refuse 7 (not (bucketSoundIn file (stateOf file .pointer)))
+      ∷ refuse 7 (not (allZero (regionOf file (newborn firstBuckets (stateOf file)))))
+      ∷ []
+      ) 0
+  unfolding split
+  split-reply = go (headerSound file) (leb (mostOf file) (bucketsOf file)) (bucketSoundIn file (stateOf file .pointer)) (allZero (regionOf file (newborn firstBuckets (stateOf file))))
+    where
+      refused : ℕ → ℕ → Splitted
+      refused r a = record { answer = r; old = a; new = noBucket; file = file }
+
+      go : (header whole old new : Bool) → cond (not header) (refused 5 noBucket) (cond whole (refused 10 noBucket)
+          (cond (not old) (refused 7 (stateOf file .pointer)) (cond (not new) (refused 7 (newborn firstBuckets (stateOf file)))
+          (record { answer = 0; old = stateOf file .pointer; new = newborn firstBuckets (stateOf file); file = divided file })))) .answer
+          ≡ reply (refuse 5 (not header) ∷ refuse 10 whole ∷ refuse 7 (not old) ∷ refuse 7 (not new) ∷ []) 0
+      go false whole old new = sym (reply-here 5 true _ 0 refl)
+      go true true old new = sym (reply-past 5 false _ 0 refl ∙ reply-here 10 true _ 0 refl)
+      go true false false new = sym (reply-past 5 false _ 0 refl ∙ reply-past 10 false _ 0 refl ∙ reply-here 7 true _ 0 refl)
+      go true false true false = sym (reply-past 5 false _ 0 refl ∙ reply-past 10 false _ 0 refl ∙ reply-past 7 false _ 0 refl ∙ reply-here 7 true _ 0 refl)
+      go true false true true = sym (reply-past 5 false _ 0 refl ∙ reply-past 10 false _ 0 refl ∙ reply-past 7 false _ 0 refl ∙ reply-past 7 false _ 0 refl ∙ reply-none 0)
+
+  -- the file is divided, or as it was
+  pub split-ways : (P : Splitted → Type 0) → ((r a : ℕ) → 2 ≤ r → P (record { answer = r; old = a; new = noBucket; file = file }))
+      → (headerSound file ≡ true → bucketsOf file < mostOf file
+      → P (record { answer = 0; old = stateOf file .pointer; new = newborn firstBuckets (stateOf file); file = divided file }))
+      → P (split file)
+  split-ways P refused done = header (headerSound file) refl
+    where
+      header : (b : Bool) → headerSound file ≡ b → P (split file)
+      header false h = subst P (split-header h) (refused 5 noBucket (omega arith))
+      header true h = ⊎-elim (λ l. subst P (split-whole h l) (refused 10 noBucket (omega arith)))
+          (λ l. old l (bucketSoundIn file (stateOf file .pointer)) refl) (below-or (mostOf file) (bucketsOf file))
+        where
+          below-or : (x y : ℕ) → (x ≤ y) ⊎ (y < x)
+          below-or x y = ⊎-elim inr (λ l. inl l) (below y x)
+
+          old : bucketsOf file < mostOf file → (b : Bool) → bucketSoundIn file (stateOf file .pointer) ≡ b → P (split file)
+          old l false bad = subst P (split-unsound h l _ _ refl refl bad) (refused 7 (stateOf file .pointer) (omega arith))
+          old l true good = new (allZero (regionOf file (newborn firstBuckets (stateOf file)))) refl
+            where
+              new : (b : Bool) → allZero (regionOf file (newborn firstBuckets (stateOf file))) ≡ b → P (split file)
+              new false dirty = subst P (split-dirty h l _ _ refl refl good dirty) (refused 7 (newborn firstBuckets (stateOf file)) (omega arith))
+              new true clean = subst P (split-done h l _ _ refl refl good clean _ refl) (done h l)
 
 -- no second outcome fits
 pub split-single : (file : List ℕ) (o p : Splitted) → o ≡ split file → p ≡ split file → o ≡ p

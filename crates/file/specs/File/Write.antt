@@ -1,5 +1,5 @@
 -- What a write leaves: a region written is read there, every other region and the header are as they were; a state written is read there, and every region is as it was.
-use Prim.Native.Nat.{ℕ, _+_, _-_, _≤_, _<_, min}
+use Prim.Native.Nat.{ℕ, zero, suc, _+_, _-_, _≤_, _<_, min}
 use mathlib.Core.Path.{_≡_, refl, sym, ap, ap₂, _∙_}
 use mathlib.Core.Bool.{Bool, true, _&&_}
 use mathlib.Core.List.{List, [], _∷_, _++_, append-nil}
@@ -15,7 +15,7 @@ use Rattle.layout.specs.Bytes.{Bytes, leAt, leBytes, marked, allZero, edit, par
 use Rattle.layout.specs.Bytes.Apart.{lent}
 use Rattle.layout.specs.Bytes.Edit.{length-edit, edit-before, edit-in, edit-after, part-edit, part-before, part-after, part-at, part-is, same-bytes, edit-bytes, part-bytes}
 use Rattle.layout.specs.Bytes.Tests.{and-left, and-both}
-use Rattle.layout.specs.Bytes.Numbers.{le-same, le-back, length-leBytes}
+use Rattle.layout.specs.Bytes.Numbers.{le-same, le-back, length-leBytes, leBytes-bytes}
 use Rattle.address.specs.Rules.{address, level}
 use Rattle.bucket.specs.Region.{Ride, Whole, slotAt, countOf, ridesOf, slotBytes, encode}
 use Rattle.bucket.specs.Region.Rides.{AllWhole}
@@ -213,6 +213,15 @@ module _ (file : List ℕ) (state : Image) (headed : 16 ≤ length file) (low : 
       ∙ ap (λ (S : ℕ). part (startOf S a) (slotAt S) (withState file state)) state-slots
       ∙ state-part (startOf (slotsOf file) a) (slotAt (slotsOf file)) (omega arith) (region-fits file seen a there)
       ∙ sym (region-is file a)
+
+  pub state-bytes : state .level < 256 → Bytes file → Bytes (withState file state)
+  unfolding levelled
+  state-bytes small bytes = state-edit Bytes (edit-bytes 4 (leBytes 2 (state .pointer)) levelled fits-pointer (leBytes-bytes 2 (state .pointer))
+      (edit-bytes 2 (state .level ∷ []) file (omega arith) one bytes))
+    where
+      one : Bytes (state .level ∷ [])
+      one zero = small
+      one (suc k) = omega arith
 
 -- what a sound bucket of the file shows
 pub bucket-shown : (file : List ℕ) (a : ℕ) → bucketSoundIn file a ≡ true

@@ -1,5 +1,5 @@
 -- What a write leaves: the bytes written, and every other byte as it was. Two lists are equal by their elements, so each law is read off these.
-use Prim.Native.Nat.{ℕ, suc, _+_, _-_, _≤_, _<_}
+use Prim.Native.Nat.{ℕ, zero, suc, _+_, _-_, _≤_, _<_}
 use mathlib.Core.Path.{_≡_, refl, sym, ap, ap₂, _∙_}
 use mathlib.Core.List.{List, [], _∷_, _++_, append-nil}
 use mathlib.Core.Logic.{by-cases}
@@ -184,6 +184,17 @@ edit-bytes at ys xs fits by bx k = by-cases (decLt k at)
   where
     inside : (i : ℕ) → k ≡ at + i → i < length ys → getD (edit at ys xs) k 0 < 256
     inside i e h = rw (e, edit-in at ys xs fits i h) (by i)
+
+-- bytes after bytes are bytes, and zeros are
+pub append-bytes : (xs ys : List ℕ) → Bytes xs → Bytes ys → Bytes (xs ++ ys)
+append-bytes [] ys bx by k = by k
+append-bytes (x ∷ xs) ys bx by zero = bx 0
+append-bytes (x ∷ xs) ys bx by (suc k) = append-bytes xs ys (λ j. bx (suc j)) by k
+
+pub zeros-bytes : (n : ℕ) → Bytes (replicate n 0)
+zeros-bytes zero k = omega arith
+zeros-bytes (suc n) zero = omega arith
+zeros-bytes (suc n) (suc k) = zeros-bytes n k
 
 -- a part of bytes is bytes
 pub part-bytes : (at n : ℕ) (xs : List ℕ) → at + n ≤ length xs → Bytes xs → Bytes (part at n xs)

@@ -1,20 +1,20 @@
 -- The refusals before any route, by their cases, and what is known of a call that passes them.
 use Prim.Native.Nat.{ℕ, _+_, _*_, _≤_, _<_}
-use mathlib.Core.Path.{_≡_, sym, ap, _∙_}
-use mathlib.Core.Bool.{true, false, not}
+use mathlib.Core.Path.{_≡_, refl, sym, ap, _∙_}
+use mathlib.Core.Bool.{true, false, cond, not}
 use mathlib.Core.List.{List, [], _∷_}
 use native.Mathlib.Omega.{arith}
 use borrow.Author.Tests.{lt-ltb, le-ltb}
-use lib.Dec.{ltb}
+use lib.Dec.{ltb, eqb}
 use lib.ListN.{length}
 use Rattle.address.specs.Limits.{firstBuckets}
 use Rattle.address.specs.declared.Image.{Image}
 use Rattle.address.specs.Room.{ImageRoom}
 use Rattle.address.specs.Rules.{Formed, NotAhead, buckets}
 use Rattle.address.specs.Rules.Hash.{span-is, span-mono}
-use Rattle.layout.specs.Replies.{refuse, reply, reply-none, reply-here, reply-past, reply-append}
+use Rattle.layout.specs.Replies.{Numbers, refuse, reply, reply-none, reply-here, reply-past, reply-append, reply-among, reply-else, numbers-append}
 use Rattle.client.specs.Table.{imageOf, recordSound, tableRefusals}
-use Rattle.client.specs.Table.Laws.{table-refused, table-passes, record-image}
+use Rattle.client.specs.Table.Laws.{table-numbers, table-refused, table-passes, record-image}
 use Rattle.file.specs.File.{bucketsOf, stateOf, headerSound}
 use Rattle.file.specs.File.Judge.{Known}
 use Rattle.file.specs.declared.Header.{Header}
@@ -45,6 +45,21 @@ module _ (file table : List ℕ) (client : ℕ) where
         pub early-none : buckets firstBuckets (imageOf table client) ≤ bucketsOf file → 0 ≡ reply (early file table client) 0
         early-none h = sym (split-early ∙ table-passes table client passes _ ∙ reply-past 4 _ _ 0 (ap not record-sound) ∙ reply-past 5 _ _ 0 (ap not header-sound)
             ∙ reply-past 6 _ _ 0 (le-ltb (bucketsOf file) (buckets firstBuckets (imageOf table client)) h) ∙ reply-none 0)
+
+-- their numbers are 2 to 6
+module _ (file table : List ℕ) (client : ℕ) where
+  early-numbers : (P : ℕ → Type 0) → P 2 → P 3 → P 4 → P 5 → P 6 → Numbers P (early file table client)
+  unfolding early
+  early-numbers P two three four five six = numbers-append P (tableRefusals table client) _ (table-numbers table client P two three) (four, (five, (six, tt)))
+
+  pub early-else : (done : ℕ) → reply (early file table client) done ≡ cond (eqb (reply (early file table client) 0) 0) done (reply (early file table client) 0)
+  early-else = reply-else (early file table client)
+      (early-numbers (λ n. n ≡ 0 → ⊥) (λ e. omega (arith, e)) (λ e. omega (arith, e)) (λ e. omega (arith, e)) (λ e. omega (arith, e)) (λ e. omega (arith, e)))
+
+  pub early-range : (reply (early file table client) 0 ≡ 0 → ⊥) → (2 ≤ reply (early file table client) 0) × (reply (early file table client) 0 ≤ 6)
+  early-range some = reply-among (λ n. (n ≡ 0 → ⊥) → (2 ≤ n) × (n ≤ 6)) (early file table client)
+      (early-numbers (λ n. (n ≡ 0 → ⊥) → (2 ≤ n) × (n ≤ 6)) (λ e. (omega arith, omega arith)) (λ e. (omega arith, omega arith)) (λ e. (omega arith, omega arith))
+      (λ e. (omega arith, omega arith)) (λ e. (omega arith, omega arith))) 0 (λ e. absurd (e refl)) some
 
 -- what is known of a call that is not refused so far
 pub record Opening (file table : List ℕ) (client : ℕ) (header : Header) (image : Image) : Type 0 where

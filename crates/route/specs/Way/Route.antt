@@ -31,6 +31,11 @@ unfolding cut everyOn
 cut-past test [] ys h = refl
 cut-past test (a ∷ xs) ys h = rw (and-left (test a) (everyOn test xs) h) (ap (λ (l : List ℕ). a ∷ l) (cut-past test xs ys (and-right (test a) (everyOn test xs) h)))
 
+pub cut-none : (test : ℕ → Bool) (way : List ℕ) → everyOn test way ≡ true → cut test way ≡ way
+unfolding cut everyOn
+cut-none test [] h = refl
+cut-none test (a ∷ way) h = rw (and-left (test a) (everyOn test way) h) (ap (λ (l : List ℕ). a ∷ l) (cut-none test way (and-right (test a) (everyOn test way) h)))
+
 pub every-past : (test : ℕ → Bool) (xs ys : List ℕ) → everyOn test xs ≡ true → everyOn test (xs ++ ys) ≡ everyOn test ys
 unfolding everyOn
 every-past test [] ys h = refl

@@ -1,16 +1,18 @@
 -- A scan's outcome by its cases, in the replies' order; and no second outcome fits.
 use Prim.Native.Nat.{ℕ, _≤_, _<_}
-use mathlib.Core.Path.{_≡_, sym, ap, _∙_}
-use mathlib.Core.Bool.{true, false}
-use mathlib.Core.List.{List}
+use mathlib.Core.Path.{_≡_, refl, sym, ap, _∙_}
+use mathlib.Core.Bool.{Bool, true, false, cond, not}
+use mathlib.Core.List.{List, [], _∷_, _++_}
 use borrow.Author.Tests.{eq-eqb, ne-eqb, lt-ltb, le-ltb}
+use lib.Dec.{ltb, eqb}
 use lib.ListN.{length}
 use Rattle.address.specs.Limits.{noBucket}
 use Rattle.layout.specs.Bytes.{edit}
-use Rattle.layout.specs.Replies.{reply}
+use Rattle.layout.specs.Replies.{refuse, reply, reply-none, reply-here, reply-past, reply-append}
 use Rattle.client.specs.Table.{imageOf}
 use Rattle.file.specs.File.{bucketsOf, bucketSoundIn}
 use Rattle.route.specs.Way.{early, everyOn}
+use Rattle.route.specs.Way.Open.{early-else}
 use Rattle.scan.specs.declared.ScanAnswer.{ScanAnswer}
 use Rattle.scan.specs.Scan.{Scanned, matchesOn, visitsOf, firstUnsound, refused, collected, scan}
 
@@ -62,6 +64,36 @@ module _ (file table : List ℕ) (client lift : ℕ) (visits matches : List ℕ)
     unfolding scan
     scan-long long o way eo ew = rw (eq-eqb (reply (early file table client) 0) 0 none, le-ltb (length visits) (bucketsOf file) long)
         (collected-along file lift visits matches o way (visitsOf file (imageOf table client)) eo ew)
+
+  -- its reply, as document 01 lists it
+  pub scan-reply : scan file table client lift visits matches .answer ≡ reply (early file table client ++ (
+      refuse 11 (ltb (length visits) (bucketsOf file))
+      ∷ refuse 7 (not (everyOn (bucketSoundIn file) (visitsOf file (imageOf table client))))
+      ∷ refuse 12 (ltb (length matches) (length (matchesOn file lift (visitsOf file (imageOf table client)))))
+      ∷ []
+      )) 0
+  unfolding scan collected refused
+  scan-reply = go (eqb r 0) (ltb (length visits) (bucketsOf file)) (everyOn (bucketSoundIn file) way) (ltb (length matches) (length found))
+      ∙ sym (reply-append (early file table client) _ 0 ∙ early-else file table client _)
+    where
+      r : ℕ
+      r = reply (early file table client) 0
+
+      way : List ℕ
+      way = visitsOf file (imageOf table client)
+
+      found : List ℕ
+      found = matchesOn file lift way
+
+      go : (none short fine few : Bool) → cond (not none) (refused r noBucket visits matches) (cond short (refused 11 noBucket visits matches)
+          (cond (not fine) (refused 7 (firstUnsound file way) visits matches) (cond few (refused 12 noBucket visits matches)
+          (record { answer = 0; bucket = noBucket; visits = length way; matches = length found; visitList = edit 0 way visits; matchList = edit 0 found matches })))) .answer
+          ≡ cond none (reply (refuse 11 short ∷ refuse 7 (not fine) ∷ refuse 12 few ∷ []) 0) r
+      go false short fine few = refl
+      go true true fine few = sym (reply-here 11 true _ 0 refl)
+      go true false false few = sym (reply-past 11 false _ 0 refl ∙ reply-here 7 true _ 0 refl)
+      go true false true true = sym (reply-past 11 false _ 0 refl ∙ reply-past 7 false _ 0 refl ∙ reply-here 12 true _ 0 refl)
+      go true false true false = sym (reply-past 11 false _ 0 refl ∙ reply-past 7 false _ 0 refl ∙ reply-past 12 false _ 0 refl ∙ reply-none 0)
 
   pub scan-single : (o p : Scanned) → o ≡ scan file table client lift visits matches → p ≡ scan file table client lift visits matches → o ≡ p
   scan-single o p eo ep = eo ∙ sym ep

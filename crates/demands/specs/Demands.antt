@@ -1,0 +1,85 @@
+-- The three demands, over every run of calls.
+use Prim.Native.Nat.{ℕ, _*_, _-_, _≤_, _<_}
+use mathlib.Core.Path.{_≡_}
+use mathlib.Core.Bool.{true, not}
+use mathlib.Core.List.{List, [], _∷_}
+use mathlib.Core.Logic.{_⊎_}
+use native.Mathlib.Omega.{arith}
+use lib.ListN.{length, take}
+use Rattle.address.specs.Rules.Scan.{times}
+use Rattle.layout.specs.Bytes.{Bytes}
+use Rattle.layout.specs.Replies.{refuse, reply}
+use Rattle.client.specs.Table.{exists}
+use Rattle.file.specs.File.{figuresFit, bucketsOf, fileSound, create}
+use Rattle.file.specs.File.Create.{create-reply, create-left}
+use Rattle.ride.specs.Call.{adjustedTable, search, insert}
+use Rattle.scan.specs.Scan.{scan}
+use Rattle.scan.specs.Scan.Accepted.{scan-refused, scan-visits-once, scan-visits-only}
+use Rattle.demands.specs.Run.{Memory, Call, Insert, Search, AllTyped, after, run, replied, conditions, Finds, Kept, Ready, sent, Reached, believed, wrongFirst, forwardsOf, summed, NotJoined}
+use Rattle.demands.specs.Run.Clients.{ready-run, sent-reaches, wrong-sends, forwards-summed}
+use Rattle.demands.specs.Run.Held.{whole-run, run-finds}
+use Rattle.demands.specs.Run.Replied.{call-replies, call-untouched, insert-adjusted, insert-untouched, search-untouched}
+
+-- Demand 1. Every entry point takes anything at all, judges it itself and gives exactly the numbered reply that document 01 fixes, first match wins.
+-- A refusal changes nothing but what 01 names.
+pub record Demand1 (m : Memory) : Type 0 where
+  -- the reply is the first whose condition holds, and 0 if none does
+  pub replies : (call : Call) → replied m call ≡ reply (conditions m call) 0
+  pub create-replies : (b S M : ℕ) → create (m .file) b S M .answer ≡ reply (refuse 13 (not (figuresFit (length (m .file)) b S M)) ∷ []) 0
+  -- replies 2 to 14 leave file and table untouched, except that 8 and 9 adjust the image
+  pub untouched : (call : Call) → 1 < replied m call → (replied m call ≡ 8 → ⊥) → (replied m call ≡ 9 → ⊥) → after m call ≡ m
+  pub adjusted : (client key : ℕ) (payload answer : List ℕ) → (replied m (Insert client key payload answer) ≡ 8) ⊎ (replied m (Insert client key payload answer) ≡ 9)
+      → after m (Insert client key payload answer) ≡ record { file = m .file; table = adjustedTable (m .file) (m .table) client key }
+  pub create-untouched : (b S M : ℕ) → create (m .file) b S M .answer ≡ 13 → create (m .file) b S M .file ≡ m .file
+  -- 14 touches nothing, not even the answer block
+  pub insert-block : (client key : ℕ) (payload answer : List ℕ) → replied m (Insert client key payload answer) ≡ 14 → insert (m .file) (m .table) client key payload answer .block ≡ answer
+  pub search-block : (client key : ℕ) (answer : List ℕ) → replied m (Search client key answer) ≡ 14 → search (m .file) (m .table) client key answer .block ≡ answer
+  -- a refused scan leaves both lists and answers counts 0
+  pub scan-lists : (client lift : ℕ) (visits matches : List ℕ) → (scan (m .file) (m .table) client lift visits matches .answer ≡ 0 → ⊥)
+      → (scan (m .file) (m .table) client lift visits matches .visits ≡ 0)
+      × (scan (m .file) (m .table) client lift visits matches .matches ≡ 0)
+      × (scan (m .file) (m .table) client lift visits matches .visitList ≡ visits)
+      × (scan (m .file) (m .table) client lift visits matches .matchList ≡ matches)
+
+pub demand-1 : (m : Memory) → Demand1 m
+demand-1 m = record {
+  replies = call-replies m;
+  create-replies = create-reply (m .file);
+  untouched = call-untouched m;
+  adjusted = insert-adjusted m;
+  create-untouched = create-left (m .file);
+  insert-block = insert-untouched m;
+  search-block = search-untouched m;
+  scan-lists = scan-refused (m .file) (m .table);
+}
+
+-- Demand 2. In a sound file, with any table whatever, after any run: a search that is not refused finds exactly the rides held at the start and those accepted since, each
+-- with its payload, across any splits; and the file is sound.
+pub record Demand2 (m : Memory) (calls : List Call) : Type 0 where
+  pub sound : fileSound (run m calls .file) ≡ true
+  pub found : (client key : ℕ) (answer : List ℕ) → replied (run m calls) (Search client key answer) ≤ 1
+      → Finds key (search (run m calls .file) (run m calls .table) client key answer) (Kept m calls)
+
+pub demand-2 : (m : Memory) → Bytes (m .file) → fileSound (m .file) ≡ true → (calls : List Call) → AllTyped calls → Demand2 m calls
+demand-2 m bytes sound calls typed = record { sound = whole-run m bytes sound calls typed .sound; found = run-finds m bytes sound calls typed }
+
+-- Demand 3. In any run of a sound file and a sound table with no client ahead: all of that holds again; every key sent reaches its own bucket in at most two forwards, each to a
+-- higher bucket; a client's wrong first sends number at most the buckets at the end less those it believed in at the start, its forwards at most twice that; every accepted
+-- scan visits each bucket once.
+pub record Demand3 (m : Memory) (calls : List Call) : Type 0 where
+  pub ready : Ready (run m calls)
+  pub reached : (call : Call) → Reached (run m calls) (sent (run m calls) call)
+  pub wrong : (client : ℕ) → exists (m .table) client ≡ true → NotJoined client calls → summed (wrongFirst client) m calls ≤ bucketsOf (run m calls .file) - believed client m
+  pub forwarded : (client : ℕ) → exists (m .table) client ≡ true → NotJoined client calls → summed (forwardsOf client) m calls ≤ 2 * (bucketsOf (run m calls .file) - believed client m)
+  pub scanned : (client lift : ℕ) (visits matches : List ℕ) → scan (run m calls .file) (run m calls .table) client lift visits matches .answer ≡ 0
+      → (a : ℕ) → a < bucketsOf (run m calls .file)
+      → times a (take (scan (run m calls .file) (run m calls .table) client lift visits matches .visits) (scan (run m calls .file) (run m calls .table) client lift visits matches .visitList)) ≡ 1
+
+pub demand-3 : (m : Memory) → Ready m → (calls : List Call) → AllTyped calls → Demand3 m calls
+demand-3 m ready calls typed = record {
+  ready = ready-run m ready calls typed;
+  reached = sent-reaches (run m calls) (ready-run m ready calls typed);
+  wrong = λ client there old. omega (arith, wrong-sends client m ready there calls typed old);
+  forwarded = λ client there old. omega (arith, wrong-sends client m ready there calls typed old, forwards-summed client m ready calls typed);
+  scanned = λ client lift visits matches done. scan-visits-once (run m calls .file) (run m calls .table) client lift visits matches done;
+}

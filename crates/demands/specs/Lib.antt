@@ -1,0 +1,3 @@
+-- What the library promises over any run of its calls.
+pub mod Demands
+pub mod Run

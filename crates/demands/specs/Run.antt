@@ -1,0 +1,211 @@
+-- Runs of calls. What a call does to file and table, and what it answers, are the definitions that its contract cites.
+pub mod Clients
+pub mod Held
+pub mod Replied
+pub mod Shut
+use Prim.Native.Nat.{ℕ, _+_, _^_, _≤_, _<_}
+use mathlib.Core.Path.{_≡_}
+use mathlib.Core.Bool.{Bool, true, cond, not, _&&_}
+use mathlib.Core.List.{List, [], _∷_, _++_, List·Memᴰ}
+use mathlib.Core.Logic.{_⊎_, _↔_}
+use lib.Dec.{leb, ltb, eqb}
+use lib.ListN.{length}
+use Rattle.address.specs.Limits.{firstBuckets}
+use Rattle.address.specs.Rules.{NotAhead, buckets, address, newborn, forwards}
+use Rattle.address.specs.Rules.Route.{Delivered}
+use Rattle.layout.specs.Bytes.{Bytes, allZero, part}
+use Rattle.layout.specs.Replies.{Refusal, refuse, reply}
+use Rattle.bucket.specs.Region.{Ride, ridesOf}
+use Rattle.client.specs.Table.{exists, imageOf, tableSound, tableRefusals, join}
+use Rattle.file.specs.File.{mostOf, stateOf, bucketsOf, headerSound, regionOf, bucketSoundIn, fileSound, lowestUnsound, check, split}
+use Rattle.route.specs.Way.{early, cut, everyOn, wayOf, ownOf, held, full}
+use Rattle.ride.specs.Call.{Outcome, search, insert}
+use Rattle.scan.specs.Scan.{matchesOn, visitsOf, scan}
+
+-- The lent memory that lasts from call to call: the file and the client table.
+pub record Memory : Type 0 where
+  pub file : List ℕ
+  pub table : List ℕ
+
+-- A call with its arguments. A list is a lent buffer as it stands before the call: a payload, an answer block, a visit list, a match list.
+pub data Call : Type 0 where
+  Join : ℕ → Call
+  Insert : ℕ → ℕ → List ℕ → List ℕ → Call
+  Search : ℕ → ℕ → List ℕ → Call
+  Split : Call
+  Scan : ℕ → ℕ → List ℕ → List ℕ → Call
+  Check : Call
+  View : ℕ → Call
+  Parent : ℕ → Call
+
+-- What the types of an insert's arguments say: a key is any 64-bit number, a payload is bytes.
+pub Typed : Call → Type 0
+Typed (Join client) = Unit {0}
+Typed (Insert client key payload answer) = (key < 256 ^ 8) × Bytes payload
+Typed (Search client key answer) = Unit {0}
+Typed Split = Unit {0}
+Typed (Scan client lift visits matches) = Unit {0}
+Typed Check = Unit {0}
+Typed (View bucket) = Unit {0}
+Typed (Parent bucket) = Unit {0}
+
+-- What a call leaves of file and table; check, view and parent change nothing.
+pub left : Outcome → Memory
+left outcome = record { file = outcome .file; table = outcome .table }
+
+pub after : Memory → Call → Memory
+after m (Join client) = record { file = m .file; table = join (m .table) client .table }
+after m (Insert client key payload answer) = left (insert (m .file) (m .table) client key payload answer)
+after m (Search client key answer) = left (search (m .file) (m .table) client key answer)
+after m Split = record { file = split (m .file) .file; table = m .table }
+after m (Scan client lift visits matches) = m
+after m Check = m
+after m (View bucket) = m
+after m (Parent bucket) = m
+
+-- A run is a list of calls, one after the other.
+pub run : Memory → List Call → Memory
+run m [] = m
+run m (call ∷ calls) = run (after m call) calls
+
+pub AllTyped : List Call → Type 0
+AllTyped [] = Unit {0}
+AllTyped (call ∷ calls) = Typed call × AllTyped calls
+
+-- ---- demand 1
+
+-- The number that a call replies; the view and the parent give no reply number, and 0 stands for them.
+pub replied : Memory → Call → ℕ
+replied m (Join client) = join (m .table) client .answer
+replied m (Insert client key payload answer) = insert (m .file) (m .table) client key payload answer .answer
+replied m (Search client key answer) = search (m .file) (m .table) client key answer .answer
+replied m Split = split (m .file) .answer
+replied m (Scan client lift visits matches) = scan (m .file) (m .table) client lift visits matches .answer
+replied m Check = check (m .file) .answer
+replied m (View bucket) = 0
+replied m (Parent bucket) = 0
+
+-- Each reply with its condition, in document 01's order: the first match wins, and 0 is left.
+pub conditions : Memory → Call → List Refusal
+conditions m (Join client) = tableRefusals (m .table) client
+conditions m (Insert client key payload answer) =
+    refuse 14 (not (eqb (length answer) 24 && eqb (length payload) 14))
+    ∷ (early (m .file) (m .table) client
+    ++ (refuse 7 (not (everyOn (bucketSoundIn (m .file)) (wayOf (m .file) (imageOf (m .table) client) key)))
+    ∷ refuse 8 (held (m .file) key)
+    ∷ refuse 9 (full (m .file) key)
+    ∷ []))
+conditions m (Search client key answer) =
+    refuse 14 (not (eqb (length answer) 24))
+    ∷ (early (m .file) (m .table) client
+    ++ (refuse 7 (not (everyOn (bucketSoundIn (m .file)) (wayOf (m .file) (imageOf (m .table) client) key)))
+    ∷ refuse 1 (not (held (m .file) key))
+    ∷ []))
+conditions m Split =
+    refuse 5 (not (headerSound (m .file)))
+    ∷ refuse 10 (leb (mostOf (m .file)) (bucketsOf (m .file)))
+    ∷ refuse 7 (not (bucketSoundIn (m .file) (stateOf (m .file) .pointer)))
+    ∷ refuse 7 (not (allZero (regionOf (m .file) (newborn firstBuckets (stateOf (m .file))))))
+    ∷ []
+conditions m (Scan client lift visits matches) =
+    early (m .file) (m .table) client
+    ++ (refuse 11 (ltb (length visits) (bucketsOf (m .file)))
+    ∷ refuse 7 (not (everyOn (bucketSoundIn (m .file)) (visitsOf (m .file) (imageOf (m .table) client))))
+    ∷ refuse 12 (ltb (length matches) (length (matchesOn (m .file) lift (visitsOf (m .file) (imageOf (m .table) client)))))
+    ∷ [])
+conditions m Check = refuse 5 (not (headerSound (m .file))) ∷ refuse 7 (ltb (lowestUnsound (m .file)) (mostOf (m .file))) ∷ []
+conditions m (View bucket) = []
+conditions m (Parent bucket) = []
+
+-- ---- demand 2
+
+-- A file holds a ride if some bucket of it does.
+pub Holds : List ℕ → Ride → Type 0
+Holds file ride = (a : ℕ) × (a < bucketsOf file) × List·Memᴰ ride (ridesOf (regionOf file a))
+
+-- An insert is accepted if its reply is 0.
+pub Accepts : Memory → Ride → Call → Type 0
+Accepts m ride (Join client) = ⊥
+Accepts m ride (Insert client key payload answer) = (replied m (Insert client key payload answer) ≡ 0) × (ride ≡ record { key = key; payload = payload })
+Accepts m ride (Search client key answer) = ⊥
+Accepts m ride Split = ⊥
+Accepts m ride (Scan client lift visits matches) = ⊥
+Accepts m ride Check = ⊥
+Accepts m ride (View bucket) = ⊥
+Accepts m ride (Parent bucket) = ⊥
+
+-- Held at the start, or its insert was accepted since.
+pub Accepted : Memory → Ride → List Call → Type 0
+Accepted m ride [] = ⊥
+Accepted m ride (call ∷ calls) = Accepts m ride call ⊎ Accepted (after m call) ride calls
+
+pub Kept : Memory → List Call → Ride → Type 0
+Kept m calls ride = Holds (m .file) ride ⊎ Accepted m ride calls
+
+-- A search of a key tells what is held of it: it replies 0 with a payload, bytes 10-23 of its block, exactly if that is held, and 1 exactly if none is.
+pub payloadIn : List ℕ → List ℕ
+payloadIn block = part 10 14 block
+
+pub record Finds (key : ℕ) (outcome : Outcome) (Has : Ride → Type 0) : Type 0 where
+  pub present : (payload : List ℕ) → ((outcome .answer ≡ 0) × (payloadIn (outcome .block) ≡ payload)) ↔ Has (record { key = key; payload = payload })
+  pub absent : (outcome .answer ≡ 1) ↔ ((payload : List ℕ) → Has (record { key = key; payload = payload }) → ⊥)
+
+-- ---- demand 3
+
+-- A sound file and a sound table with no client ahead.
+pub record Ready (m : Memory) : Type 0 where
+  pub bytes : Bytes (m .file)
+  pub file-sound : fileSound (m .file) ≡ true
+  pub table-sound : tableSound (m .table) ≡ true
+  pub none-ahead : (client : ℕ) → exists (m .table) client ≡ true → NotAhead firstBuckets (stateOf (m .file)) (imageOf (m .table) client)
+
+-- A key that a client sends: insert and search send theirs unless 14 or 2 to 6 refuses them.
+pub data Sent : Type 0 where
+  Nothing : Sent
+  Key : ℕ → ℕ → Sent
+
+pub sentIf : Bool → Memory → ℕ → ℕ → Sent
+sentIf fits m client key = cond (fits && eqb (reply (early (m .file) (m .table) client) 0) 0) (Key client key) Nothing
+
+pub sent : Memory → Call → Sent
+sent m (Join client) = Nothing
+sent m (Insert client key payload answer) = sentIf (eqb (length answer) 24 && eqb (length payload) 14) m client key
+sent m (Search client key answer) = sentIf (eqb (length answer) 24) m client key
+sent m Split = Nothing
+sent m (Scan client lift visits matches) = Nothing
+sent m Check = Nothing
+sent m (View bucket) = Nothing
+sent m (Parent bucket) = Nothing
+
+-- Its defined route; with 7 it ends at the unsound bucket.
+pub routeOf : Memory → ℕ → ℕ → List ℕ
+routeOf m client key = cut (bucketSoundIn (m .file)) (wayOf (m .file) (imageOf (m .table) client) key)
+
+-- It reaches its own bucket: at most two forwards, each to a higher-numbered bucket, and the last bucket is the key's address.
+pub Reached : Memory → Sent → Type 0
+Reached m Nothing = Unit {0}
+Reached m (Key client key) =
+    (h : ℕ) × (h ≤ 2) × Delivered firstBuckets (stateOf (m .file)) key (address firstBuckets (imageOf (m .table) client) key) h (routeOf m client key)
+
+-- Of a client: 1 for a key sent whose first bucket is not the key's own, and the forwards of its route.
+pub wrongFirst : ℕ → Memory → Sent → ℕ
+wrongFirst client m Nothing = 0
+wrongFirst client m (Key other key) = cond (eqb other client && not (eqb (address firstBuckets (imageOf (m .table) client) key) (ownOf (m .file) key))) 1 0
+
+pub forwardsOf : ℕ → Memory → Sent → ℕ
+forwardsOf client m Nothing = 0
+forwardsOf client m (Key other key) = cond (eqb other client) (forwards (routeOf m client key)) 0
+
+-- The buckets that a client believes in.
+pub believed : ℕ → Memory → ℕ
+believed client m = buckets firstBuckets (imageOf (m .table) client)
+
+-- Summed over a run.
+pub summed : (Memory → Sent → ℕ) → Memory → List Call → ℕ
+summed count m [] = 0
+summed count m (call ∷ calls) = count m (sent m call) + summed count (after m call) calls
+
+-- The client is not joined anew.
+pub NotJoined : ℕ → List Call → Type 0
+NotJoined client [] = Unit {0}
+NotJoined client (call ∷ calls) = (call ≡ Join client → ⊥) × NotJoined client calls
