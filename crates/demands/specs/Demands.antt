@@ -5,7 +5,7 @@ use mathlib.Core.Bool.{true, not}
 use mathlib.Core.List.{List, [], _∷_}
 use mathlib.Core.Logic.{_⊎_}
 use native.Mathlib.Omega.{arith}
-use lib.ListN.{length, take}
+use lib.ListN.{length}
 use Rattle.address.specs.Rules.Scan.{times}
 use Rattle.layout.specs.Bytes.{Bytes}
 use Rattle.layout.specs.Replies.{refuse, reply}
@@ -14,9 +14,9 @@ use Rattle.file.specs.File.{figuresFit, bucketsOf, fileSound, create}
 use Rattle.file.specs.File.Create.{create-reply, create-left}
 use Rattle.ride.specs.Call.{adjustedTable, search, insert}
 use Rattle.scan.specs.Scan.{scan}
-use Rattle.scan.specs.Scan.Accepted.{scan-refused, scan-visits-once, scan-visits-only}
-use Rattle.demands.specs.Run.{Memory, Call, Insert, Search, AllTyped, after, run, replied, conditions, Finds, Kept, Ready, sent, Reached, believed, wrongFirst, forwardsOf, summed, NotJoined}
-use Rattle.demands.specs.Run.Clients.{ready-run, sent-reaches, wrong-sends, forwards-summed}
+use Rattle.scan.specs.Scan.Accepted.{scan-refused}
+use Rattle.demands.specs.Run.{Memory, Call, Insert, Search, Scan, AllTyped, after, run, replied, conditions, Finds, Kept, Ready, sent, Reached, believed, wrongFirst, forwardsOf, summed, visited, NotJoined}
+use Rattle.demands.specs.Run.Clients.{ready-run, sent-reaches, wrong-sends, forwards-summed, scan-once}
 use Rattle.demands.specs.Run.Held.{whole-run, run-finds}
 use Rattle.demands.specs.Run.Replied.{call-replies, call-untouched, insert-adjusted, insert-untouched, search-untouched}
 
@@ -71,9 +71,9 @@ pub record Demand3 (m : Memory) (calls : List Call) : Type 0 where
   pub reached : (call : Call) → Reached (run m calls) (sent (run m calls) call)
   pub wrong : (client : ℕ) → exists (m .table) client ≡ true → NotJoined client calls → summed (wrongFirst client) m calls ≤ bucketsOf (run m calls .file) - believed client m
   pub forwarded : (client : ℕ) → exists (m .table) client ≡ true → NotJoined client calls → summed (forwardsOf client) m calls ≤ 2 * (bucketsOf (run m calls .file) - believed client m)
-  pub scanned : (client lift : ℕ) (visits matches : List ℕ) → scan (run m calls .file) (run m calls .table) client lift visits matches .answer ≡ 0
-      → (a : ℕ) → a < bucketsOf (run m calls .file)
-      → times a (take (scan (run m calls .file) (run m calls .table) client lift visits matches .visits) (scan (run m calls .file) (run m calls .table) client lift visits matches .visitList)) ≡ 1
+  pub scanned : (client lift : ℕ) (visits matches : List ℕ) → replied (run m calls) (Scan client lift visits matches) ≡ 0
+      → (a : ℕ) → (a < bucketsOf (run m calls .file) → times a (visited (run m calls) client lift visits matches) ≡ 1)
+      × (bucketsOf (run m calls .file) ≤ a → times a (visited (run m calls) client lift visits matches) ≡ 0)
 
 pub demand-3 : (m : Memory) → Ready m → (calls : List Call) → AllTyped calls → Demand3 m calls
 demand-3 m ready calls typed = record {
@@ -81,5 +81,5 @@ demand-3 m ready calls typed = record {
   reached = sent-reaches (run m calls) (ready-run m ready calls typed);
   wrong = λ client there old. omega (arith, wrong-sends client m ready there calls typed old);
   forwarded = λ client there old. omega (arith, wrong-sends client m ready there calls typed old, forwards-summed client m ready calls typed);
-  scanned = λ client lift visits matches done. scan-visits-once (run m calls .file) (run m calls .table) client lift visits matches done;
+  scanned = scan-once (run m calls);
 }

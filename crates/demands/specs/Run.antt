@@ -9,7 +9,7 @@ use mathlib.Core.Bool.{Bool, true, cond, not, _&&_}
 use mathlib.Core.List.{List, [], _∷_, _++_, List·Memᴰ}
 use mathlib.Core.Logic.{_⊎_, _↔_}
 use lib.Dec.{leb, ltb, eqb}
-use lib.ListN.{length}
+use lib.ListN.{length, take}
 use Rattle.address.specs.Limits.{firstBuckets}
 use Rattle.address.specs.Rules.{NotAhead, buckets, address, newborn, forwards}
 use Rattle.address.specs.Rules.Route.{Delivered}
@@ -204,6 +204,12 @@ believed client m = buckets firstBuckets (imageOf (m .table) client)
 pub summed : (Memory → Sent → ℕ) → Memory → List Call → ℕ
 summed count m [] = 0
 summed count m (call ∷ calls) = count m (sent m call) + summed count (after m call) calls
+
+-- The buckets that a scan visits.
+pub visited : Memory → ℕ → ℕ → List ℕ → List ℕ → List ℕ
+visited m client lift visits matches =
+    let outcome = scan (m .file) (m .table) client lift visits matches in
+    take (outcome .visits) (outcome .visitList)
 
 -- The client is not joined anew.
 pub NotJoined : ℕ → List Call → Type 0

@@ -1,6 +1,5 @@
 -- `client::table_refusal` tests the length and then the number, in the replies' order.
 use mathlib.Core.Path.{refl, sym, _∙_}
-use native.Mathlib.Omega.{arith}
 use borrow.Author.Tests.{not-true, not-false}
 use Rattle.client.specs.Table.Laws.{length-flag, refused-length, refused-client, not-refused}
 use Rattle.client.proofs.table_refusal.Statement.{statement}

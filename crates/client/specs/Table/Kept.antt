@@ -13,9 +13,9 @@ use lib.Dec.{leb, ltb, eqb}
 use lib.ListN.{length, getD}
 use Rattle.address.specs.Limits.{firstBuckets, mostLevel}
 use Rattle.address.specs.declared.Image.{Image}
-use Rattle.address.specs.Rules.{«at», Formed, span}
+use Rattle.address.specs.Rules.{Formed, span}
 use Rattle.address.specs.Rules.Hash.{span-is, span-mono}
-use Rattle.layout.specs.Bytes.{leAt, edit}
+use Rattle.layout.specs.Bytes.{leAt}
 use Rattle.layout.specs.Bytes.Tests.{and-left, and-right, and-both, all-at, all-of}
 use Rattle.layout.specs.Bytes.Edit.{length-edit, edit-before, edit-in, edit-after}
 use Rattle.layout.specs.Bytes.Numbers.{le-two, leBytes-two}

@@ -1,13 +1,13 @@
 -- Demand 3: a sound file and a sound table with no client ahead stay so; a key sent reaches its own bucket in at most two forwards;
 -- a wrong first send makes the client believe in more buckets, and it never believes in more than there are.
-use Prim.Native.Nat.{ℕ, suc, _+_, _*_, _≤_, _<_}
-use mathlib.Core.Path.{_≡_, refl, sym, ap, ap₂, subst, _∙_}
-use mathlib.Core.Bool.{Bool, true, false, cond, not, _&&_, true≢false}
+use Prim.Native.Nat.{ℕ, _+_, _*_, _≤_, _<_}
+use mathlib.Core.Path.{_≡_, refl, sym, ap, subst, _∙_}
+use mathlib.Core.Bool.{Bool, true, false, cond, not, _&&_}
 use mathlib.Core.List.{List, [], _∷_}
-use mathlib.Core.Logic.{_⊎_, inl, inr, ⊎-elim, by-cases, _↔_}
+use mathlib.Core.Logic.{by-cases}
 use native.Mathlib.Decide.{ℕ-discrete}
 use native.Mathlib.Omega.{arith}
-use borrow.Author.Tests.{eqb-true, eqb-false, eq-eqb, ne-eqb}
+use borrow.Author.Tests.{eqb-true, eqb-false}
 use lib.Dec.{eqb}
 use lib.ListN.{length}
 use Rattle.address.specs.Limits.{firstBuckets}
@@ -15,19 +15,14 @@ use Rattle.address.specs.declared.Image.{Image}
 use Rattle.address.specs.Rules.{«at», Formed, NotAhead, address, buckets, imageAfter, route, forwards}
 use Rattle.address.specs.Rules.Adjust.{after-more}
 use Rattle.address.specs.Rules.Cases.{buckets-is}
-use Rattle.address.specs.Rules.Grow.{grown-buckets}
 use Rattle.address.specs.Rules.Hash.{span-is, span-pos}
 use Rattle.address.specs.Rules.Route.{Delivered, delivered, forwards-is, forwards-short, route-right, first-right}
-use Rattle.layout.specs.Bytes.{Bytes}
-use Rattle.layout.specs.Bytes.Tests.{and-left, and-right}
+use Rattle.address.specs.Rules.Scan.{times}
 use Rattle.layout.specs.Replies.{reply}
-use Rattle.client.specs.Table.{Joined, exists, imageOf, recordSound, tableSound, tableRefusals, withImage, join}
-use Rattle.client.specs.Table.Kept.{written-image, written-exists, other-image, table-kept, sound-record, sound-client, client-exists}
-use Rattle.client.specs.Table.Laws.{join-ways, record-fits, record-image}
-use Rattle.file.specs.File.{stateOf, bucketsOf, headerSound, bucketSoundIn, fileSound, Splitted, divided, split}
-use Rattle.file.specs.File.Judge.{header-ranges, buckets-of}
-use Rattle.file.specs.File.Kept.{sound-header, split-state}
-use Rattle.file.specs.File.Split.{split-ways}
+use Rattle.client.specs.Table.{exists, imageOf, tableSound, tableRefusals, withImage, join}
+use Rattle.client.specs.Table.Kept.{written-image, written-exists, other-image, table-kept}
+use Rattle.client.specs.Table.Laws.{join-ways, record-fits}
+use Rattle.file.specs.File.{stateOf, bucketsOf, bucketSoundIn}
 use Rattle.route.specs.Way.{early, ownOf}
 use Rattle.route.specs.Way.Kept.{Passed, passed, existing, formed, believes, near, written-behind, written-grows, route-sound}
 use Rattle.route.specs.Way.Own.{own-is}
@@ -35,7 +30,8 @@ use Rattle.route.specs.Way.Route.{way-route, cut-none}
 use Rattle.ride.specs.Call.{adjustedTable}
 use Rattle.ride.specs.Call.Kept.{adjusted-image, adjusted-other, adjusted-exists, adjusted-kept}
 use Rattle.ride.specs.Call.Left.{Through, search-ways, insert-ways}
-use Rattle.demands.specs.Run.{Memory, Call, Join, Insert, Search, Split, Scan, Check, View, Parent, Typed, AllTyped, left, after, run, Ready, Sent, Nothing, Key, sentIf, sent, routeOf, Reached, believed, wrongFirst, forwardsOf, summed, NotJoined}
+use Rattle.demands.specs.Run.{Memory, Call, Join, Insert, Search, Split, Scan, Check, View, Parent, Typed, AllTyped, left, after, run, replied, visited, Ready, Sent, Nothing, Key, sentIf, sent, routeOf, Reached, believed, wrongFirst, forwardsOf, summed, NotJoined}
+use Rattle.scan.specs.Scan.Accepted.{scan-visits-once, scan-visits-only}
 use Rattle.demands.specs.Run.Held.{step}
 
 -- what becomes of the table: sound, no client ahead, the same clients, and none of them believes in fewer buckets unless it is joined anew
@@ -291,3 +287,13 @@ unfolding AllTyped summed
 forwards-summed client m ready [] typed = omega arith
 forwards-summed client m ready (call ∷ calls) typed =
     omega (arith, forwards-twice m ready client call, forwards-summed client (after m call) (ready-step m ready call (typed .0)) calls (typed .1))
+
+-- ---- an accepted scan
+
+pub scan-once : (m : Memory) (client lift : ℕ) (visits matches : List ℕ) → replied m (Scan client lift visits matches) ≡ 0
+    → (a : ℕ) → (a < bucketsOf (m .file) → times a (visited m client lift visits matches) ≡ 1) × (bucketsOf (m .file) ≤ a → times a (visited m client lift visits matches) ≡ 0)
+unfolding replied visited
+scan-once m client lift visits matches done a = (
+  scan-visits-once (m .file) (m .table) client lift visits matches done a,
+  scan-visits-only (m .file) (m .table) client lift visits matches done a,
+)

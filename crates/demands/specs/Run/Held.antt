@@ -1,28 +1,27 @@
 -- Demand 2: in a sound file, a search that is not refused finds exactly the rides held at the start and those accepted since.
 -- An accepted insert adds one ride, a split moves some, nothing else changes what is held; and a key is sought where alone it can be.
-use Prim.Native.Nat.{ℕ, suc, _+_, _^_, _≤_, _<_}
+use Prim.Native.Nat.{ℕ, suc, _+_, _≤_, _<_}
 use mathlib.Core.Path.{_≡_, refl, sym, ap, subst, _∙_}
-use mathlib.Core.Bool.{Bool, true, false, cond, not, _&&_}
+use mathlib.Core.Bool.{true, false, not}
 use mathlib.Core.List.{List, [], _∷_, _++_, List·Memᴰ}
 use mathlib.Core.Logic.{_⊎_, inl, inr, ⊎-elim, by-cases, _↔_}
 use native.Mathlib.Decide.{ℕ-discrete}
 use native.Mathlib.Omega.{arith}
 use borrow.Author.Tests.{eqb-true, ltb-true, ltb-false, leb-false}
-use lib.Dec.{leb, ltb, eqb}
+use lib.Dec.{eqb}
 use lib.ListN.{length}
 use Rattle.address.specs.Limits.{firstBuckets}
-use Rattle.address.specs.declared.Image.{Image}
-use Rattle.address.specs.Rules.{Formed, address, buckets, keeps, newborn, grown}
+use Rattle.address.specs.Rules.{address, buckets, keeps, newborn, grown}
 use Rattle.address.specs.Rules.Address.{address-exists}
-use Rattle.address.specs.Rules.Cases.{buckets-is, keeps-yes}
+use Rattle.address.specs.Rules.Cases.{keeps-yes}
 use Rattle.address.specs.Rules.Grow.{newborn-next, grown-buckets, divided-cases}
 use Rattle.address.specs.Rules.Hash.{span-pos}
-use Rattle.layout.specs.Bytes.{Bytes, part}
+use Rattle.layout.specs.Bytes.{Bytes}
 use Rattle.layout.specs.Bytes.Tests.{and-right}
 use Rattle.bucket.specs.Region.{Ride, Whole, countOf, rideAt, ridesOf, slotOf, kept}
 use Rattle.bucket.specs.Region.Held.{slot-held, held-passes, held-whole, held-more, found-held, absent-held}
 use Rattle.bucket.specs.Region.Keep.{slot-most, kept-member, member-kept}
-use Rattle.file.specs.File.{mostOf, slotsOf, stateOf, bucketsOf, headerSound, regionOf, bucketSoundIn, fileSound, withRide, divided}
+use Rattle.file.specs.File.{mostOf, slotsOf, stateOf, bucketsOf, regionOf, fileSound, withRide, divided}
 use Rattle.file.specs.File.Judge.{Ranges, header-ranges, buckets-of}
 use Rattle.file.specs.File.Kept.{sound-header, sound-bucket, ride-kept, ride-held, others-held, ride-state, ride-bytes, split-kept, split-state, split-bytes, split-old, split-new, split-other}
 use Rattle.file.specs.File.Split.{split-ways}
@@ -33,7 +32,7 @@ use Rattle.route.specs.Way.{ownOf, held, full}
 use Rattle.route.specs.Way.Kept.{existing}
 use Rattle.route.specs.Way.Own.{own-is, held-is, full-is}
 use Rattle.ride.specs.Call.{Outcome, inserted, search}
-use Rattle.ride.specs.Call.Left.{Refused, search-ways, insert-ways}
+use Rattle.ride.specs.Call.Left.{search-ways, insert-ways}
 use Rattle.ride.specs.Call.Replied.{inserted-is}
 use Rattle.demands.specs.Run.{Memory, Call, Join, Insert, Search, Split, Scan, Check, View, Parent, Typed, AllTyped, left, after, run, replied, Holds, Accepts, Accepted, payloadIn, Finds, Kept}
 

@@ -1,14 +1,12 @@
 -- Demand 1: each call replies as its list of conditions says, and what a refusal leaves.
-use Prim.Native.Nat.{ℕ, _≤_, _<_}
-use mathlib.Core.Path.{_≡_, refl, sym, ap, ap₂, subst, _∙_}
+use Prim.Native.Nat.{ℕ, _<_}
+use mathlib.Core.Path.{_≡_, refl, sym}
 use mathlib.Core.Bool.{Bool}
 use mathlib.Core.List.{List}
 use mathlib.Core.Logic.{_⊎_, ⊎-elim}
 use native.Mathlib.Omega.{arith}
 use Rattle.layout.specs.Replies.{reply, reply-none}
-use Rattle.client.specs.Table.{Joined, join}
 use Rattle.client.specs.Table.Laws.{join-reply, join-ways}
-use Rattle.file.specs.File.{Splitted, split}
 use Rattle.file.specs.File.Region.{check-reply}
 use Rattle.file.specs.File.Split.{split-reply, split-ways}
 use Rattle.ride.specs.Call.{Outcome, adjustedTable, search, insert}

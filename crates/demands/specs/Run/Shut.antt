@@ -1,12 +1,11 @@
 -- What the demands shut out: a library that refuses everything, one that stores nothing, and one with a made-up forward count.
 use Prim.Native.Nat.{ℕ, _≤_, _<_}
 use mathlib.Core.Path.{_≡_, refl, sym, ap, _∙_}
-use mathlib.Core.Bool.{Bool, true, _&&_}
-use mathlib.Core.List.{List, []}
+use mathlib.Core.Bool.{true}
+use mathlib.Core.List.{List, _∷_}
 use mathlib.Core.Logic.{_⊎_, inl, inr, ⊎-elim}
 use native.Mathlib.Omega.{arith}
 use borrow.Author.Tests.{eq-eqb}
-use lib.Dec.{eqb}
 use lib.ListN.{length}
 use Rattle.address.specs.Compare.{below}
 use Rattle.address.specs.Limits.{firstBuckets}
@@ -31,9 +30,9 @@ use Rattle.route.specs.Way.Open.{early-none}
 use Rattle.route.specs.Way.Route.{cut-none}
 use Rattle.ride.specs.Call.{search, insert}
 use Rattle.ride.specs.Call.Left.{search-ways, insert-ways}
-use Rattle.demands.specs.Run.{Memory, Call, Join, Insert, Search, Split, Scan, Check, View, Parent, AllTyped, after, run, replied, Finds, payloadIn, Accepted, Kept, Ready, routeOf}
-use Rattle.demands.specs.Run.Clients.{through}
-use Rattle.demands.specs.Run.Held.{stored-long}
+use Rattle.demands.specs.Run.{Memory, Call, Insert, Search, Split, Typed, AllTyped, after, run, replied, payloadIn, Accepts, Accepted, Kept, Ready, routeOf}
+use Rattle.demands.specs.Run.Clients.{through, ready-step, ready-run}
+use Rattle.demands.specs.Run.Held.{stored-long, run-finds}
 
 module _ (m : Memory) (ready : Ready m) where
   -- neither 2 to 6 refuses a client of the table
@@ -101,3 +100,13 @@ module _ (m : Memory) (ready : Ready m) where
       clean : bucketsOf (m .file) < mostOf (m .file) → allZero (regionOf (m .file) (newborn firstBuckets (stateOf (m .file)))) ≡ true
       clean l = sym (region-past (m .file) (newborn firstBuckets (stateOf (m .file))) (omega (arith, next)))
           ∙ sound-region (m .file) (ready .file-sound) (newborn firstBuckets (stateOf (m .file))) (omega (arith, l, next))
+
+-- what an insert was accepted with is found in any run after it, by any client of the table
+pub stored : (m : Memory) → Ready m → (client key : ℕ) (payload answer : List ℕ) → Typed (Insert client key payload answer) → replied m (Insert client key payload answer) ≡ 0
+    → (calls : List Call) → AllTyped calls → (other : ℕ) → exists (run (after m (Insert client key payload answer)) calls .table) other ≡ true → (block : List ℕ) → length block ≡ 24
+    → let now = run (after m (Insert client key payload answer)) calls in (replied now (Search other key block) ≡ 0) × (payloadIn (search (now .file) (now .table) other key block .block) ≡ payload)
+unfolding replied run AllTyped Kept Accepted Accepts
+stored m ready client key payload answer typed accepted calls typed-too other there block long =
+    run-finds m (ready .bytes) (ready .file-sound) (Insert client key payload answer ∷ calls) (typed, typed-too) other key block
+    (search-answers _ (ready-run _ (ready-step m ready (Insert client key payload answer) typed) calls typed-too) other there key block long)
+    .present payload .1 (inr (inl (accepted, refl)))
