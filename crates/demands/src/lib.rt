@@ -1,1 +1,1 @@
-//! What the whole library promises over any run of its calls. Theorems only: see specs/.
+// What the whole library promises over any run of its calls. Theorems only: see specs/.

@@ -1,10 +1,10 @@
 -- What searching, placing and dividing keep: a key is found exactly where it is held, a fresh ride that belongs leaves a bucket sound,
--- and a division of a sound bucket gives two sound ones that together hold the same rides.
+-- and what a division gives a bucket is sound there: just those rides that pass its test.
 use Prim.Native.Nat.{ℕ, zero, suc, _+_, _≤_, _<_}
 use mathlib.Core.Path.{_≡_, refl, sym, ap, ap₂, _∙_}
-use mathlib.Core.Bool.{Bool, true, false, cond, not}
+use mathlib.Core.Bool.{Bool, true, cond, not}
 use mathlib.Core.List.{List, [], _∷_, _++_, List·Memᴰ, List·Memᴰ·head, List·Memᴰ·tail, List·Memᴰ·not-nil, List·Memᴰ·cases-cons}
-use mathlib.Core.Logic.{_⊎_, inl, inr, ⊎-elim, _↔_}
+use mathlib.Core.Logic.{_⊎_, ⊎-elim}
 use native.Mathlib.Nat.{add-zero, zero-add}
 use native.Mathlib.Omega.{arith}
 use borrow.Author.Tests.{eq-eqb, eqb-true}
@@ -17,7 +17,7 @@ use Rattle.layout.specs.Bytes.Tests.{and-left, and-right, and-both, first-withi
 use Rattle.bucket.specs.Region.{Ride, Whole, slotAt, countOf, keyAt, rideAt, ridesFrom, ridesOf, keysOf, every, distinct, soundWith, bucketSound, slotOf, encode, kept}
 use Rattle.bucket.specs.Region.Rides.{AllWhole, whole-append, keys-append, every-append, distinct-append, kept-whole, kept-passes, kept-distinct, kept-lengths, kept-in, kept-ind}
 use Rattle.bucket.specs.Region.Judge.{fresh-from}
-use Rattle.bucket.specs.Region.Sound.{Parts, length-rides, sound-count, sound-whole, rides-encode, encode-sound, bucket-judged, bucket-parts}
+use Rattle.bucket.specs.Region.Sound.{Parts, length-rides, sound-count, sound-whole, encode-sound, bucket-judged, bucket-parts}
 
 -- the keys of the slots, one by one
 key-at : (region : List ℕ) (k c i : ℕ) → i < c → getD (keysOf (ridesFrom region k c)) i 0 ≡ keyAt region (k + i)
@@ -130,34 +130,3 @@ member-kept test (first ∷ rides) ride m h = ⊎-elim here
       where
         same : test (first .key) ≡ true
         same = ap (λ (r : Ride). test (r .key)) (sym e) ∙ h
-
--- dividing a sound bucket gives two sound ones at the next level that together hold the same rides
-module _ (S j : ℕ) (own : ℕ → Bool) (region : List ℕ) (bytes : Bytes region) (long : length region ≡ slotAt S) (small : S < 65536) (sound : Parts S j own region)
-    (stay : ℕ → Bool) where
-  abbrev half : (ℕ → Bool) → List ℕ
-  half test = encode S (suc j) (kept test (ridesOf region))
-
-  few : length (ridesOf region) ≤ S
-  few = omega (arith, sound-count S j own region bytes long sound, sound .few)
-
-  all : AllWhole (ridesOf region)
-  all = sound-whole S j own region bytes long sound
-
-  half-sound : (test : ℕ → Bool) → soundWith S (suc j) test (half test) ≡ true
-  half-sound test = divided-sound S (suc j) test (ridesOf region) all few small (sound .single)
-
-  half-rides : (test : ℕ → Bool) → ridesOf (half test) ≡ kept test (ridesOf region)
-  half-rides test = rides-encode S (suc j) (kept test (ridesOf region)) (kept-whole test (ridesOf region) all) (omega (arith, few, kept-lengths test (ridesOf region))) small
-
-  pub halves-sound : (soundWith S (suc j) stay (half stay) ≡ true) × (soundWith S (suc j) (λ key. not (stay key)) (half (λ key. not (stay key))) ≡ true)
-  halves-sound = (half-sound stay, half-sound (λ key. not (stay key)))
-
-  pub halves-hold : (ride : Ride) → List·Memᴰ ride (ridesOf region) ↔ (List·Memᴰ ride (ridesOf (half stay)) ⊎ List·Memᴰ ride (ridesOf (half (λ key. not (stay key)))))
-  halves-hold ride = rw (half-rides stay, half-rides (λ key. not (stay key))) (there, ⊎-elim (kept-member stay (ridesOf region) ride) (kept-member (λ key. not (stay key)) (ridesOf region) ride))
-    where
-      there : List·Memᴰ ride (ridesOf region) → List·Memᴰ ride (kept stay (ridesOf region)) ⊎ List·Memᴰ ride (kept (λ key. not (stay key)) (ridesOf region))
-      there m = go (stay (ride .key)) refl
-        where
-          go : (b : Bool) → stay (ride .key) ≡ b → List·Memᴰ ride (kept stay (ridesOf region)) ⊎ List·Memᴰ ride (kept (λ key. not (stay key)) (ridesOf region))
-          go true e = inl (member-kept stay (ridesOf region) ride m e)
-          go false e = inr (member-kept (λ key. not (stay key)) (ridesOf region) ride m (ap not e))

@@ -21,7 +21,7 @@ use Rattle.layout.specs.Bytes.Edit.{length-edit, edit-before, edit-in, edit-aft
 use Rattle.layout.specs.Bytes.Numbers.{le-two, leBytes-two}
 use Rattle.layout.specs.Replies.{reply}
 use Rattle.client.specs.Table.{lengthSound, exists, imageOf, recordFormed, imageFormed, recordSound, tableSound, tableRefusals, imageBytes, withImage}
-use Rattle.client.specs.Table.Laws.{record-fits, not-refused}
+use Rattle.client.specs.Table.Laws.{not-refused}
 
 -- the eight bytes of an image
 bytes-is : (image : Image) → imageBytes image ≡ 76 ∷ 67 ∷ image .level ∷ 0 ∷ image .pointer % 256 ∷ image .pointer / 256 % 256 ∷ 0 ∷ 0 ∷ []
@@ -141,8 +141,3 @@ sound-record table sound client there = all-at (recordSound table) (length table
 pub sound-client : (table : List ℕ) → tableSound table ≡ true → (client : ℕ) → exists table client ≡ true → reply (tableRefusals table client) 0 ≡ 0
 unfolding tableSound exists
 sound-client table sound client there = not-refused table client (and-left (lengthSound table) _ sound) (ltb-true _ _ there)
-
--- a client that the table does not refuse exists
-pub client-exists : (table : List ℕ) (client : ℕ) → reply (tableRefusals table client) 0 ≡ 0 → exists table client ≡ true
-unfolding exists
-client-exists table client h = lt-ltb client (length table / 8) (omega (arith, record-fits table client h))

@@ -103,44 +103,6 @@ part-after at ys xs fits p n h l = same-bytes (part p n (edit at ys xs)) (part p
     long : length (part p n (edit at ys xs)) ≡ n
     long = length-part p n (edit at ys xs) (omega (arith, length-edit at ys xs fits))
 
--- a write within a part is a write to the part
-pub part-within : (s n at : ℕ) (ys xs : List ℕ) → at + length ys ≤ n → s + n ≤ length xs → part s n (edit (s + at) ys xs) ≡ edit at ys (part s n xs)
-part-within s n at ys xs inside fits = same-bytes (part s n (edit (s + at) ys xs)) (edit at ys (part s n xs)) (long ∙ sym (edited ∙ whole)) each
-  where
-    whole : length (part s n xs) ≡ n
-    whole = length-part s n xs fits
-
-    edited : length (edit at ys (part s n xs)) ≡ length (part s n xs)
-    edited = length-edit at ys (part s n xs) (omega (arith, whole))
-
-    long : length (part s n (edit (s + at) ys xs)) ≡ n
-    long = length-part s n (edit (s + at) ys xs) (omega (arith, length-edit (s + at) ys xs (omega arith)))
-
-    moved : (k : ℕ) → getD (edit (s + at) ys xs) (s + at + k) 0 ≡ getD (edit (s + at) ys xs) (s + (at + k)) 0
-    moved k = ap (λ (i : ℕ). getD (edit (s + at) ys xs) i 0) (add-assoc s at k)
-
-    inner : (k : ℕ) → at ≤ k → k < at + length ys → getD (part s n (edit (s + at) ys xs)) k 0 ≡ getD (edit at ys (part s n xs)) k 0
-    inner k h l =
-        part-at s n (edit (s + at) ys xs) k (omega arith)
-        ∙ ap (λ (i : ℕ). getD (edit (s + at) ys xs) i 0) place
-        ∙ edit-in (s + at) ys xs (omega arith) (k - at) (omega arith)
-        ∙ sym (ap (λ (i : ℕ). getD (edit at ys (part s n xs)) i 0) inside-place ∙ edit-in at ys (part s n xs) (omega (arith, whole)) (k - at) (omega arith))
-      where
-        place : s + k ≡ s + at + (k - at)
-        place = omega arith
-
-        inside-place : k ≡ at + (k - at)
-        inside-place = omega arith
-
-    each : (k : ℕ) → k < length (part s n (edit (s + at) ys xs)) → getD (part s n (edit (s + at) ys xs)) k 0 ≡ getD (edit at ys (part s n xs)) k 0
-    each k h = by-cases (decLt k at)
-        (λ l. part-at s n (edit (s + at) ys xs) k (omega (arith, long)) ∙ edit-before (s + at) ys xs (omega arith) (s + k) (omega arith)
-        ∙ sym (edit-before at ys (part s n xs) (omega (arith, whole)) k l ∙ part-at s n xs k (omega (arith, long))))
-        (λ l. by-cases (decLt k (at + length ys))
-        (λ m. inner k (omega arith) m)
-        (λ m. part-at s n (edit (s + at) ys xs) k (omega (arith, long)) ∙ edit-after (s + at) ys xs (omega arith) (s + k) (omega arith)
-        ∙ sym (edit-after at ys (part s n xs) (omega (arith, whole)) k (omega arith) ∙ part-at s n xs k (omega (arith, long)))))
-
 -- a write right behind another is one write
 pub edit-next : (at : ℕ) (ys zs xs : List ℕ) → at + (length ys + length zs) ≤ length xs → edit (at + length ys) zs (edit at ys xs) ≡ edit at (ys ++ zs) xs
 edit-next at ys zs xs fits = same-bytes (edit (at + length ys) zs (edit at ys xs)) (edit at (ys ++ zs) xs)
