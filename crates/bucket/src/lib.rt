@@ -115,7 +115,7 @@ fn fingerprint(key: u64) -> usize
     ensures { λ r. ⌜ (r ≡ fingerprint key) × (r < 512) ⌝ }
 {
     let folded = (key % 4294967296 + key / 4294967296) % 4294967296;
-    (folded * 2654435769 / 8388608 % 512) as usize
+    (folded * 1640531527 / 8388608 % 512) as usize
 }
 
 // One more than a slot of the first ones that holds a key, and 0 if none does: of the key's fingerprint they are the latest, one

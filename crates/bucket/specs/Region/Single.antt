@@ -20,9 +20,9 @@ use Rattle.bucket.specs.Region.Judge.{keys-more, fresh-from, stands, dis
 
 -- A number below 512 of a key: its ride and its lift added in 32 bits, and of a product of that the upper nine of the lower 32 bits.
 pub fingerprint : ℕ → ℕ
-fingerprint key = (key % 4294967296 + key / 4294967296) % 4294967296 * 2654435769 / 8388608 % 512
+fingerprint key = (key % 4294967296 + key / 4294967296) % 4294967296 * 1640531527 / 8388608 % 512
 
-pub fingerprint-is : (key : ℕ) → (key % 4294967296 + key / 4294967296) % 4294967296 * 2654435769 / 8388608 % 512 ≡ fingerprint key
+pub fingerprint-is : (key : ℕ) → (key % 4294967296 + key / 4294967296) % 4294967296 * 1640531527 / 8388608 % 512 ≡ fingerprint key
 unfolding fingerprint
 fingerprint-is key = refl
 
