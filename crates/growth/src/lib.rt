@@ -37,7 +37,7 @@ fn divide(file: &mut [u8], header: Header, new: u32)
     let old = state.pointer;
     let from = file::start(slots, old);
     let to = file::start(slots, new);
-    bucket::divide(
+    division::divide(
         file,
         from,
         to,

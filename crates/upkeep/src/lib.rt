@@ -113,6 +113,6 @@ pub fn create(file: &mut [u8], capacity: u64, slots: u64, most: u64) -> u8
     layout::clear(file);
     put_figures(file, capacity, slots, most);
     let end = 16 + (8 + 24 * slots as usize);
-    bucket::renew(&mut file[16..end], slots as u32, 0);
+    division::renew(&mut file[16..end], slots as u32, 0);
     0
 }

@@ -9,20 +9,17 @@ use native.Mathlib.Omega.{arith}
 use lib.ListN.{length, take, drop}
 use Rattle.address.specs.Compare.{below, same}
 use Rattle.address.specs.Limits.{firstBuckets, noBucket}
-use Rattle.address.specs.Rules.{Formed, NotAhead, buckets, lastRound, highest}
-use Rattle.address.specs.Rules.Cases.{buckets-is}
+use Rattle.address.specs.Rules.{lastRound, highest}
 use Rattle.address.specs.Rules.Address.{address-exists}
 use Rattle.address.specs.Rules.Scan.{times, times-none, times-here, times-there, rounds}
 use Rattle.layout.specs.Bytes.{edit}
 use Rattle.layout.specs.Bytes.Edit.{front-written, rest-left}
 use Rattle.layout.specs.Replies.{reply}
 use Rattle.client.specs.Table.{imageOf}
-use Rattle.client.specs.Table.Laws.{record-image}
 use Rattle.file.specs.File.{stateOf, bucketsOf, bucketSoundIn, fileSound}
-use Rattle.file.specs.File.Judge.{header-ranges, buckets-of}
 use Rattle.file.specs.File.Kept.{sound-bucket}
 use Rattle.route.specs.Way.{early, everyOn, held}
-use Rattle.route.specs.Way.Kept.{Passed, passed}
+use Rattle.route.specs.Way.Kept.{Passed, passed, existing, formed, believes, near}
 use Rattle.route.specs.Way.Route.{every-none}
 use Rattle.scan.specs.Scan.{Scanned, ofLift, keysIn, matchesOn, visitsOf, firstUnsound, scan}
 use Rattle.scan.specs.Scan.Found.{own, once, elsewhere, held-times, other-times, visited}
@@ -122,27 +119,15 @@ module _ (file table : List ℕ) (client lift : ℕ) (visits matches : List ℕ)
 
   -- ---- the way of a scan that has passed 2 to 6
 
-  existing : bucketsOf file ≡ buckets firstBuckets (stateOf file)
-  existing = buckets-of file ∙ sym (buckets-is firstBuckets (stateOf file))
-
   module _ (passes : Passed file table client) where
-    formed : Formed firstBuckets (stateOf file)
-    formed = header-ranges file (passes .header-sound) .formed
-
-    believes : Formed firstBuckets (imageOf table client)
-    believes = record-image table client (passes .image-sound) .1
-
-    near : NotAhead firstBuckets (stateOf file) (imageOf table client)
-    near = omega (arith, passes .behind, existing)
-
     visits-length : length way ≡ bucketsOf file
-    visits-length = way-length file (passes .header-sound) (imageOf table client) believes near
+    visits-length = way-length file (passes .header-sound) (imageOf table client) (believes file table client passes) (near file table client passes)
 
     visits-once : (a : ℕ) → a < bucketsOf file → times a way ≡ 1
-    visits-once = way-once file (passes .header-sound) (imageOf table client) believes near
+    visits-once = way-once file (passes .header-sound) (imageOf table client) (believes file table client passes) (near file table client passes)
 
     visits-only : (a : ℕ) → bucketsOf file ≤ a → times a way ≡ 0
-    visits-only = way-only file (passes .header-sound) (imageOf table client) believes near
+    visits-only = way-only file (passes .header-sound) (imageOf table client) (believes file table client passes) (near file table client passes)
 
     -- in a sound file it has no unsound bucket
     pub scan-file-sound : fileSound file ≡ true → everyOn (bucketSoundIn file) way ≡ true
@@ -150,7 +135,7 @@ module _ (file table : List ℕ) (client lift : ℕ) (visits matches : List ℕ)
 
     -- and its last round is at most the highest bucket level less i'
     pub scan-rounds : lastRound firstBuckets (stateOf file) (imageOf table client) ≤ highest firstBuckets (stateOf file) - imageOf table client .level
-    scan-rounds = rounds firstBuckets (omega arith) (stateOf file) formed (imageOf table client) believes near
+    scan-rounds = rounds firstBuckets (omega arith) (stateOf file) (formed file table client passes) (imageOf table client) (believes file table client passes) (near file table client passes)
 
   -- ---- an accepted scan
 
@@ -194,7 +179,7 @@ module _ (file table : List ℕ) (client lift : ℕ) (visits matches : List ℕ)
 
     module _ (key : ℕ) (match : ofLift lift key ≡ true) where
       exists : own file key < bucketsOf file
-      exists = omega (arith, existing, address-exists firstBuckets (omega arith) (stateOf file) (formed (accepted .passes)) key)
+      exists = omega (arith, existing file, address-exists firstBuckets (omega arith) (stateOf file) (formed file table client (accepted .passes)) key)
 
       in-own : times key (take (outcome .matches) (outcome .matchList)) ≡ times key (keysIn file (own file key))
       in-own = ap (times key) scan-matches ∙ visited file key lift match way (accepted .sound) (visits-once (accepted .passes) (own file key) exists)

@@ -12,14 +12,14 @@ use Rattle.address.specs.Compare.{below, same}
 use Rattle.address.specs.Limits.{firstBuckets}
 use Rattle.address.specs.declared.Image.{Image}
 use Rattle.address.specs.Rules.{Formed, NotAhead, buckets, visits}
-use Rattle.address.specs.Rules.Cases.{buckets-is}
 use Rattle.address.specs.Rules.Hash.{span-is, span-mono}
 use Rattle.address.specs.Rules.Scan.{times, times-here, times-there, visits-once, visits-only, visits-length}
 use Rattle.file.specs.File.{stateOf, bucketsOf, headerSound}
-use Rattle.file.specs.File.Judge.{Ranges, header-ranges, Known, buckets-of}
+use Rattle.file.specs.File.Judge.{Ranges, header-ranges, Known}
 use Rattle.file.specs.File.Region.{buckets-known}
 use Rattle.file.specs.declared.Header.{Header}
 use Rattle.route.specs.Way.{everyOn}
+use Rattle.route.specs.Way.Kept.{existing}
 use Rattle.route.specs.Way.Open.{Opening}
 use Rattle.route.specs.Way.Route.{every-past, every-fails, every-one}
 use Rattle.order.specs.Queue.{Scannable}
@@ -63,20 +63,17 @@ module _ (file : List ℕ) (sound : headerSound file ≡ true) (image : Image) (
   seen : Ranges file
   seen = header-ranges file sound
 
-  existing : buckets firstBuckets (stateOf file) ≡ bucketsOf file
-  existing = buckets-is firstBuckets (stateOf file) ∙ sym (buckets-of file)
-
   pub way-length : length (visitsOf file image) ≡ bucketsOf file
   unfolding visitsOf
-  way-length = visits-length firstBuckets (omega arith) (stateOf file) (seen .formed) image formed behind ∙ existing
+  way-length = visits-length firstBuckets (omega arith) (stateOf file) (seen .formed) image formed behind ∙ sym (existing file)
 
   pub way-once : (a : ℕ) → a < bucketsOf file → times a (visitsOf file image) ≡ 1
   unfolding visitsOf
-  way-once a h = visits-once firstBuckets (omega arith) (stateOf file) (seen .formed) image formed behind a (omega (arith, h, existing))
+  way-once a h = visits-once firstBuckets (omega arith) (stateOf file) (seen .formed) image formed behind a (omega (arith, h, existing file))
 
   pub way-only : (a : ℕ) → bucketsOf file ≤ a → times a (visitsOf file image) ≡ 0
   unfolding visitsOf
-  way-only a h = visits-only firstBuckets (omega arith) (stateOf file) (seen .formed) image formed behind a (omega (arith, h, existing))
+  way-only a h = visits-only firstBuckets (omega arith) (stateOf file) (seen .formed) image formed behind a (omega (arith, h, existing file))
 
   pub visit-way : Way file (visitsOf file image)
   visit-way = record {

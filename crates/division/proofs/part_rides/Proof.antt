@@ -1,4 +1,4 @@
--- `bucket::part_rides`: the rides so far are parted; each turn writes one behind both groups and counts it to one.
+-- `division::part_rides`: the rides so far are parted; each turn writes one behind both groups and counts it to one.
 use borrow.Author.Needs.{needs}
 use Prim.Native.Nat.{ℕ, _+_, _*_, _-_, _≤_}
 use mathlib.Core.Path.{sym, ap, subst, _∙_}
@@ -9,10 +9,10 @@ use lib.Dec.{eqb}
 use Rattle.address.specs.Rules.{hash, keeps}
 use Rattle.address.specs.Rules.Cases.{keeps-is}
 use Rattle.layout.specs.Bytes.{edit, part}
 use Rattle.bucket.specs.Region.{slotAt, keyAt}
 use Rattle.bucket.specs.Region.Divide.{Parted, one-at-most, parted-none, parted-key, parted-again, parted-more, parted-done}
-use Rattle.bucket.proofs.part_rides.Statement.{statement}
-use Rattle.bucket.proofs.part_rides.Tie as tie
+use Rattle.division.proofs.part_rides.Statement.{statement}
+use Rattle.division.proofs.part_rides.Tie as tie
 
 abbrev Inv-loop : tie.InvT-loop
 Inv-loop bytes₀ old new slots count first home level stay₀ k₀ bytes stay k = Parted (keeps first home level) bytes₀ slots old new count k stay bytes

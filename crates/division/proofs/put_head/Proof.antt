@@ -1,12 +1,12 @@
--- `bucket::put_head` writes eight bytes, which are a head's.
+-- `division::put_head` writes eight bytes, which are a head's.
 use Prim.Native.Nat.{ℕ}
 use mathlib.Core.Path.{sym, ap, _∙_}
 use mathlib.Core.List.{List}
 use Rattle.layout.specs.Bytes.{edit}
 use Rattle.bucket.specs.Region.Encode.{head-is}
 use borrow.Author.Needs.{needs}
-use Rattle.bucket.proofs.put_head.Statement.{statement}
-use Rattle.bucket.proofs.put_head.Tie as tie
+use Rattle.division.proofs.put_head.Statement.{statement}
+use Rattle.division.proofs.put_head.Tie as tie
 
 cast-t7 : tie.Need-cast-t7
 cast-t7 c = search needs

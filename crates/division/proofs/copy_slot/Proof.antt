@@ -1,12 +1,12 @@
--- `bucket::copy_slot` reads three numbers and writes them one behind the other.
+-- `division::copy_slot` reads three numbers and writes them one behind the other.
 use Prim.Native.Nat.{ℕ, _+_}
 use mathlib.Core.Path.{ap, ap₂, _∙_}
 use mathlib.Core.List.{List}
 use Rattle.layout.specs.Bytes.{leBytes, edit}
 use Rattle.bucket.specs.Region.Write.{copied}
 use borrow.Author.Needs.{needs}
-use Rattle.bucket.proofs.copy_slot.Statement.{statement}
-use Rattle.bucket.proofs.copy_slot.Tie as tie
+use Rattle.division.proofs.copy_slot.Statement.{statement}
+use Rattle.division.proofs.copy_slot.Tie as tie
 
 read8-requires : tie.Need-read8-requires
 read8-requires c κs = search needs

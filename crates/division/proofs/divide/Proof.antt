@@ -1,4 +1,4 @@
--- `bucket::divide` parts the rides and closes both regions.
+-- `division::divide` parts the rides and closes both regions.
 use Prim.Native.Nat.{ℕ, _+_, _*_, _-_, _≤_}
 use mathlib.Core.Path.{sym, ap, subst, _∙_}
 use mathlib.Core.List.{List}
@@ -6,11 +6,11 @@ use native.Mathlib.Omega.{arith}
 use lib.ListN.{replicate}
 use Rattle.address.specs.Rules.{keeps}
 use Rattle.layout.specs.Bytes.{edit}
 use Rattle.bucket.specs.Region.{slotAt, headBytes}
 use Rattle.bucket.specs.Region.Divide.{Halves, divided-bytes, divide-count, divide-rides}
 use borrow.Author.Needs.{needs}
-use Rattle.bucket.proofs.divide.Statement.{statement}
-use Rattle.bucket.proofs.divide.Tie as tie
+use Rattle.division.proofs.divide.Statement.{statement}
+use Rattle.division.proofs.divide.Tie as tie
 
 add-read2 : tie.Need-add-read2
 add-read2 c = search needs

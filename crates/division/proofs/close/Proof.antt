@@ -1,14 +1,14 @@
--- `bucket::close` writes the head and then lends the unused slots, which come back as zeros.
+-- `division::close` writes the head and then lends the unused slots, which come back as zeros.
 use Prim.Native.Nat.{ℕ, _+_, _*_, _-_}
 use mathlib.Core.Path.{ap, _∙_}
 use native.Mathlib.Omega.{arith}
 use lib.ListN.{replicate}
 use Rattle.layout.specs.Bytes.{edit}
 use Rattle.bucket.specs.Region.{slotAt}
 use Rattle.bucket.specs.Region.Divide.{closing}
 use borrow.Author.Needs.{needs}
-use Rattle.bucket.proofs.close.Statement.{statement}
-use Rattle.bucket.proofs.close.Tie as tie
+use Rattle.division.proofs.close.Statement.{statement}
+use Rattle.division.proofs.close.Tie as tie
 
 put-head-requires : tie.Need-put-head-requires
 put-head-requires c κs = search needs

@@ -1,9 +1,9 @@
--- `bucket::renew`: a region closed without a ride is an empty bucket's bytes.
+-- `division::renew`: a region closed without a ride is an empty bucket's bytes.
 use mathlib.Core.Path.{_∙_}
 use Rattle.bucket.specs.Region.Divide.{closed-empty}
 use borrow.Author.Needs.{needs}
-use Rattle.bucket.proofs.renew.Statement.{statement}
-use Rattle.bucket.proofs.renew.Tie as tie
+use Rattle.division.proofs.renew.Statement.{statement}
+use Rattle.division.proofs.renew.Tie as tie
 
 close-requires : tie.Need-close-requires
 close-requires c κs = search needs
