@@ -9,7 +9,6 @@ pub mod Order
 pub mod Parent
 pub mod Route
 pub mod Scan
-pub mod Steps
 pub mod Table
 use Prim.Native.Nat.{ℕ, zero, suc, _+_, _*_, _-_, _^_, _%_, _≤_, _<_, max}
 use mathlib.Core.Bool.{Bool, true, cond, _&&_, _||_}

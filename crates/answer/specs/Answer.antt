@@ -19,6 +19,6 @@ block r way flag payload = (r ∷ length way ∷ []) ++ entry way 0 ++ entry way
 pub noPayload : List ℕ
 noPayload = replicate 14 0
 
--- Forwards are the route's buckets less one, or 0 without a route.
+-- Forwards are the route's buckets less one, or 0 without a route; of bytes that are no answer block, 0.
 pub forwardsIn : List ℕ → ℕ
 forwardsIn answer = cond (eqb (length answer) 24) (getD answer 1 0 - 1) 0

@@ -63,9 +63,9 @@ pub record Demand2 (m : Memory) (calls : List Call) : Type 0 where
 pub demand-2 : (m : Memory) → Bytes (m .file) → fileSound (m .file) ≡ true → (calls : List Call) → AllTyped calls → Demand2 m calls
 demand-2 m bytes sound calls typed = record { sound = whole-run m bytes sound calls typed .sound; found = run-finds m bytes sound calls typed }
 
--- Demand 3. In any run of a sound file and a sound table with no client ahead: all of that holds again; every key sent reaches its own bucket in at most two forwards, each to a
--- higher bucket; a client's wrong first sends number at most the buckets at the end less those it believed in at the start, its forwards at most twice that; every accepted
--- scan visits each bucket once.
+-- Demand 3. After any run of a sound file and a sound table with no client ahead, and so after each call of it: all of that holds again; whatever key is sent next reaches its
+-- own bucket in at most two forwards, each to a higher bucket; a client's wrong first sends in the run number at most the buckets at the end less those it believed in at the
+-- start, its forwards at most twice that; a scan that is accepted next visits each bucket once.
 pub record Demand3 (m : Memory) (calls : List Call) : Type 0 where
   pub ready : Ready (run m calls)
   pub reached : (call : Call) → Reached (run m calls) (sent (run m calls) call)

@@ -11,16 +11,16 @@ use mathlib.Core.Logic.{_⊎_, _↔_}
 use lib.Dec.{leb, ltb, eqb}
 use lib.ListN.{length, take}
 use Rattle.address.specs.Limits.{firstBuckets}
-use Rattle.address.specs.Rules.{NotAhead, buckets, address, newborn, forwards}
+use Rattle.address.specs.Rules.{NotAhead, buckets, address, newborn, forwards, parent}
 use Rattle.address.specs.Rules.Route.{Delivered}
 use Rattle.layout.specs.Bytes.{Bytes, allZero, part}
 use Rattle.layout.specs.Replies.{Refusal, refuse, reply}
 use Rattle.bucket.specs.Region.{Ride, ridesOf}
-use Rattle.client.specs.Table.{exists, imageOf, tableSound, tableRefusals, join}
-use Rattle.file.specs.File.{mostOf, stateOf, bucketsOf, headerSound, regionOf, bucketSoundIn, fileSound, lowestUnsound, check, split}
+use Rattle.client.specs.Table.{Joined, exists, imageOf, tableSound, tableRefusals, join}
+use Rattle.file.specs.File.{Checked, Splitted, mostOf, stateOf, bucketsOf, headerSound, regionOf, bucketSoundIn, fileSound, lowestUnsound, check, view, split}
 use Rattle.route.specs.Way.{early, cut, everyOn, wayOf, ownOf, held, full}
 use Rattle.ride.specs.Call.{Outcome, search, insert}
-use Rattle.scan.specs.Scan.{matchesOn, visitsOf, scan}
+use Rattle.scan.specs.Scan.{Scanned, matchesOn, visitsOf, scan}
 
 -- The lent memory that lasts from call to call: the file and the client table.
 pub record Memory : Type 0 where
@@ -49,15 +49,37 @@ Typed Check = Unit {0}
 Typed (View bucket) = Unit {0}
 Typed (Parent bucket) = Unit {0}
 
--- What a call leaves of file and table; check, view and parent change nothing.
+-- File and table as an insert or a search leaves them.
 pub left : Outcome → Memory
 left outcome = record { file = outcome .file; table = outcome .table }
 
+-- What a call answers: for each, the outcome that its contract is equal to.
+abbrev pub Answer : Call → Type 0
+Answer (Join client) = Joined
+Answer (Insert client key payload answer) = Outcome
+Answer (Search client key answer) = Outcome
+Answer Split = Splitted
+Answer (Scan client lift visits matches) = Scanned
+Answer Check = Checked
+Answer (View bucket) = List ℕ
+Answer (Parent bucket) = ℕ
+
+pub answered : (m : Memory) (call : Call) → Answer call
+answered m (Join client) = join (m .table) client
+answered m (Insert client key payload answer) = insert (m .file) (m .table) client key payload answer
+answered m (Search client key answer) = search (m .file) (m .table) client key answer
+answered m Split = split (m .file)
+answered m (Scan client lift visits matches) = scan (m .file) (m .table) client lift visits matches
+answered m Check = check (m .file)
+answered m (View bucket) = view (m .file) bucket
+answered m (Parent bucket) = parent firstBuckets bucket
+
+-- What it leaves of file and table; scan, check, view and parent change nothing.
 pub after : Memory → Call → Memory
-after m (Join client) = record { file = m .file; table = join (m .table) client .table }
-after m (Insert client key payload answer) = left (insert (m .file) (m .table) client key payload answer)
-after m (Search client key answer) = left (search (m .file) (m .table) client key answer)
-after m Split = record { file = split (m .file) .file; table = m .table }
+after m (Join client) = record { file = m .file; table = answered m (Join client) .table }
+after m (Insert client key payload answer) = left (answered m (Insert client key payload answer))
+after m (Search client key answer) = left (answered m (Search client key answer))
+after m Split = record { file = answered m Split .file; table = m .table }
 after m (Scan client lift visits matches) = m
 after m Check = m
 after m (View bucket) = m
@@ -74,18 +96,18 @@ AllTyped (call ∷ calls) = Typed call × AllTyped calls
 
 -- ---- demand 1
 
--- The number that a call replies; the view and the parent give no reply number, and 0 stands for them.
+-- The number that a call replies. The view and the parent give no reply number; 0 stands for them, and they are never refused.
 pub replied : Memory → Call → ℕ
-replied m (Join client) = join (m .table) client .answer
-replied m (Insert client key payload answer) = insert (m .file) (m .table) client key payload answer .answer
-replied m (Search client key answer) = search (m .file) (m .table) client key answer .answer
-replied m Split = split (m .file) .answer
-replied m (Scan client lift visits matches) = scan (m .file) (m .table) client lift visits matches .answer
-replied m Check = check (m .file) .answer
+replied m (Join client) = answered m (Join client) .answer
+replied m (Insert client key payload answer) = answered m (Insert client key payload answer) .answer
+replied m (Search client key answer) = answered m (Search client key answer) .answer
+replied m Split = answered m Split .answer
+replied m (Scan client lift visits matches) = answered m (Scan client lift visits matches) .answer
+replied m Check = answered m Check .answer
 replied m (View bucket) = 0
 replied m (Parent bucket) = 0
 
--- Each reply with its condition, in document 01's order: the first match wins, and 0 is left.
+-- Each reply with its condition, in document 01's order: the first match wins, and 0 is left. (1 is no refusal, but it has its condition like one.)
 pub conditions : Memory → Call → List Refusal
 conditions m (Join client) = tableRefusals (m .table) client
 conditions m (Insert client key payload answer) =
@@ -134,18 +156,20 @@ Accepts m ride Check = ⊥
 Accepts m ride (View bucket) = ⊥
 Accepts m ride (Parent bucket) = ⊥
 
--- Held at the start, or its insert was accepted since.
+-- Its insert was accepted in a run.
 pub Accepted : Memory → Ride → List Call → Type 0
 Accepted m ride [] = ⊥
 Accepted m ride (call ∷ calls) = Accepts m ride call ⊎ Accepted (after m call) ride calls
 
+-- Held at the start, or its insert was accepted since.
 pub Kept : Memory → List Call → Ride → Type 0
 Kept m calls ride = Holds (m .file) ride ⊎ Accepted m ride calls
 
--- A search of a key tells what is held of it: it replies 0 with a payload, bytes 10-23 of its block, exactly if that is held, and 1 exactly if none is.
+-- The payload in an answer block, bytes 10-23.
 pub payloadIn : List ℕ → List ℕ
 payloadIn block = part 10 14 block
 
+-- A search of a key tells what is held of it: it replies 0 with a payload exactly if that is held, and 1 exactly if none is.
 pub record Finds (key : ℕ) (outcome : Outcome) (Has : Ride → Type 0) : Type 0 where
   pub present : (payload : List ℕ) → ((outcome .answer ≡ 0) × (payloadIn (outcome .block) ≡ payload)) ↔ Has (record { key = key; payload = payload })
   pub absent : (outcome .answer ≡ 1) ↔ ((payload : List ℕ) → Has (record { key = key; payload = payload }) → ⊥)

@@ -27,16 +27,17 @@ early file table client =
     ∷ refuse 6 (ltb (bucketsOf file) (buckets firstBuckets (imageOf table client)))
     ∷ [])
 
--- The buckets up to and with the first at which a test fails.
+-- With 7 the route ends at the unsound bucket: the buckets up to and with the first at which a test fails.
 pub cut : (ℕ → Bool) → List ℕ → List ℕ
 cut test [] = []
 cut test (a ∷ way) = a ∷ cond (test a) (cut test way) []
 
+-- 7 is given unless every bucket on the way passes the test.
 pub everyOn : (ℕ → Bool) → List ℕ → Bool
 everyOn test [] = true
 everyOn test (a ∷ way) = test a && everyOn test way
 
--- The route of a key from a client's image: the rules' route; with 7 it ends at the unsound bucket.
+-- The route of a key from a client's image: the rules' route.
 pub wayOf : List ℕ → Image → ℕ → List ℕ
 wayOf file image key = route firstBuckets (stateOf file) image key
 
@@ -44,7 +45,7 @@ wayOf file image key = route firstBuckets (stateOf file) image key
 pub noted : Walk → List ℕ
 noted walk = take (walk .count) (walk .first ∷ walk .second ∷ walk .third ∷ [])
 
--- The key's own bucket: the slot that holds the key there, whether it is held, and whether the bucket holds S records.
+-- The key's own bucket, whether it holds the key, and whether it holds S records.
 pub ownOf : List ℕ → ℕ → ℕ
 ownOf file key = address firstBuckets (stateOf file) key
 

@@ -64,7 +64,7 @@ printedFrom file table (line ∷ next ∷ more) =
 pub printed : List ℕ → List ℕ
 printed input = printedFrom madeFile joinedTable (pieces lineFeed input)
 
--- Room for what is printed of so many bytes of input: a longer line needs more only if its command has two numbers.
+-- Room for what is printed of so many bytes of input: at most 32 bytes for each, since the longest line, a scan's, is printed for a command of at least six.
 abbrev pub roomFor : ℕ → ℕ
 roomFor bytes = 32 * bytes
 

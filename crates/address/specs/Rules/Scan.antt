@@ -251,6 +251,20 @@ module _ (N : ℕ) (positive : 0 < N) (file : Image) (formed : Formed N file) wh
       handled-length most (queue ++ answers N file m) (next-good m queue g) (omega (arith, next-total m queue (g .0))),
     )
 
+    -- and no more room than that is ever used
+    handled-enough : (most other : ℕ) (queue : List Message) → AllGood N file base queue → total N queue (buckets N file) ≤ most → total N queue (buckets N file) ≤ other
+        → handled N file most queue ≡ handled N file other queue
+    unfolding handled
+    handled-enough zero zero [] g room space = refl
+    handled-enough zero zero (m ∷ queue) g room space = refl
+    handled-enough zero (suc other) [] g room space = refl
+    handled-enough zero (suc other) (m ∷ queue) g room space = absurd (omega (arith, next-total m queue (g .0)))
+    handled-enough (suc most) zero [] g room space = refl
+    handled-enough (suc most) zero (m ∷ queue) g room space = absurd (omega (arith, next-total m queue (g .0)))
+    handled-enough (suc most) (suc other) [] g room space = refl
+    handled-enough (suc most) (suc other) (m ∷ queue) g room space = ap (λ (rest : List Message). m ∷ rest)
+        (handled-enough most other (queue ++ answers N file m) (next-good m queue g) (omega (arith, next-total m queue (g .0))) (omega (arith, next-total m queue (g .0))))
+
     -- whatever is handled is good
     handled-good : (most : ℕ) (queue : List Message) → AllGood N file base queue → AllGood N file base (handled N file most queue)
     unfolding handled
@@ -368,6 +382,11 @@ module _ (N : ℕ) (positive : 0 < N) (file : Image) (formed : Formed N file)
   unfolding visits scan
   visits-length = length-map (scan N file image) (λ m. m .to)
       ∙ handled-length N positive file formed (image .level) (buckets N file) (opening N image) opening-good (omega (arith, opening-total)) ∙ opening-total
+
+  -- the bound of the recursion cuts nothing: with more room the same is handled
+  pub scan-whole : (most : ℕ) → buckets N file ≤ most → handled N file most (opening N image) ≡ scan N file image
+  unfolding scan
+  scan-whole most room = handled-enough N positive file formed (image .level) most (buckets N file) (opening N image) opening-good (omega (arith, opening-total)) (omega (arith, opening-total))
 
   -- the last round is at most the highest bucket level less i'
   pub rounds : lastRound N file image ≤ highest N file - image .level

@@ -133,11 +133,15 @@ module _ (table : List ℕ) (client : ℕ) (image : Image) (fits : 8 * client + 
             (λ e. ap (recordSound (withImage table client image)) e ∙ written-sound)
             (λ apart. written-other k apart ∙ all-at (recordSound table) (length table / 8) k (and-right (lengthSound table) _ h) (omega (arith, l, ap (λ (n : ℕ). n / 8) written-length)))
 
--- each record of a sound table is sound, and its client is not refused by the table
+-- a sound table has a sound length and sound records; where the length is sound, 2 and 3 do not refuse a client of the table
 pub sound-record : (table : List ℕ) → tableSound table ≡ true → (client : ℕ) → exists table client ≡ true → recordSound table client ≡ true
 unfolding tableSound exists
 sound-record table sound client there = all-at (recordSound table) (length table / 8) client (and-right (lengthSound table) _ sound) (ltb-true _ _ there)
 
-pub sound-client : (table : List ℕ) → tableSound table ≡ true → (client : ℕ) → exists table client ≡ true → reply (tableRefusals table client) 0 ≡ 0
-unfolding tableSound exists
-sound-client table sound client there = not-refused table client (and-left (lengthSound table) _ sound) (ltb-true _ _ there)
+pub sound-length : (table : List ℕ) → tableSound table ≡ true → lengthSound table ≡ true
+unfolding tableSound
+sound-length table sound = and-left (lengthSound table) _ sound
+
+pub client-passes : (table : List ℕ) → lengthSound table ≡ true → (client : ℕ) → exists table client ≡ true → reply (tableRefusals table client) 0 ≡ 0
+unfolding exists
+client-passes table long client there = not-refused table client long (ltb-true _ _ there)

@@ -29,10 +29,10 @@ use Rattle.route.specs.Way.Own.{own-is}
 use Rattle.route.specs.Way.Route.{way-route, cut-none}
 use Rattle.ride.specs.Call.{adjustedTable}
 use Rattle.ride.specs.Call.Kept.{adjusted-image, adjusted-other, adjusted-exists, adjusted-kept}
-use Rattle.ride.specs.Call.Left.{Through, search-ways, insert-ways}
-use Rattle.demands.specs.Run.{Memory, Call, Join, Insert, Search, Split, Scan, Check, View, Parent, Typed, AllTyped, left, after, run, replied, visited, Ready, Sent, Nothing, Key, sentIf, sent, routeOf, Reached, believed, wrongFirst, forwardsOf, summed, NotJoined}
+use Rattle.ride.specs.Call.Left.{search-ways, insert-ways}
+use Rattle.demands.specs.Run.{Memory, Call, Join, Insert, Search, Split, Scan, Check, View, Parent, Typed, AllTyped, left, after, run, replied, answered, visited, Ready, Sent, Nothing, Key, sentIf, sent, routeOf, Reached, believed, wrongFirst, forwardsOf, summed, NotJoined}
 use Rattle.scan.specs.Scan.Accepted.{scan-visits-once, scan-visits-only}
-use Rattle.demands.specs.Run.Held.{step}
+use Rattle.demands.specs.Run.Held.{step, through}
 
 -- what becomes of the table: sound, no client ahead, the same clients, and none of them believes in fewer buckets unless it is joined anew
 record Behind (call : Call) (file table now : List ℕ) : Type 0 where
@@ -112,7 +112,7 @@ module _ (m : Memory) (ready : Ready m) where
       least = omega (arith, buckets-is firstBuckets («at» 0 0), span-is firstBuckets 0, buckets-is firstBuckets (stateOf (m .file)), span-pos firstBuckets (omega arith) (stateOf (m .file) .level))
 
   table-step : (call : Call) → Behind call (m .file) (m .table) (after m call .table)
-  unfolding after left now
+  unfolding after left now answered
   table-step (Join client) = join-ways (λ o. Behind (Join client) (m .file) (m .table) (o .table)) (m .table) client
       (λ r e some. as-it-was (Join client) (m .table) refl) (join-behind client)
   table-step (Insert client key payload answer) = insert-ways (m .file) (m .table) client key payload answer
@@ -211,20 +211,17 @@ module _ (m : Memory) (ready : Ready m) where
           go true em false er = omega (arith, two-forwards client key (subst (λ (c : ℕ). reply (early (m .file) (m .table) c) 0 ≡ 0) (eqb-true _ _ em) none))
 
   -- a key that is sent is followed by the adjustment
-  pub through : (fits : Bool) (client key : ℕ) → fits ≡ true → reply (early (m .file) (m .table) client) 0 ≡ 0 → Through fits (m .file) (m .table) client key
-  through fits client key fit none = record { fit = fit; none = none; sound = route-sound (m .file) (m .table) client key (passed (m .file) (m .table) client none) (ready .file-sound) }
-
   inserting : (client key : ℕ) (payload answer : List ℕ) → (eqb (length answer) 24 && eqb (length payload) 14) ≡ true → reply (early (m .file) (m .table) client) 0 ≡ 0
       → after m (Insert client key payload answer) .table ≡ adjustedTable (m .file) (m .table) client key
-  unfolding after left
+  unfolding after left answered
   inserting client key payload answer fits none = insert-ways (m .file) (m .table) client key payload answer (λ o. o .table ≡ adjustedTable (m .file) (m .table) client key)
-      (λ o r. absurd (r .why (through _ client key fits none))) (λ w held. refl) (λ w free whole. refl) (λ w free room. refl)
+      (λ o r. absurd (r .why (through (m .file) (m .table) (ready .file-sound) _ client key fits none))) (λ w held. refl) (λ w free whole. refl) (λ w free room. refl)
 
   searching : (client key : ℕ) (answer : List ℕ) → eqb (length answer) 24 ≡ true → reply (early (m .file) (m .table) client) 0 ≡ 0
       → after m (Search client key answer) .table ≡ adjustedTable (m .file) (m .table) client key
-  unfolding after left
+  unfolding after left answered
   searching client key answer fits none = search-ways (m .file) (m .table) client key answer (λ o. o .table ≡ adjustedTable (m .file) (m .table) client key)
-      (λ o r. absurd (r .why (through _ client key fits none))) (λ w held. refl) (λ w absent. refl)
+      (λ o r. absurd (r .why (through (m .file) (m .table) (ready .file-sound) _ client key fits none))) (λ w held. refl) (λ w absent. refl)
 
   -- a wrong first send makes the client believe in more, nothing in less unless it joins anew
   module _ (client : ℕ) (there : exists (m .table) client ≡ true) where
@@ -292,7 +289,7 @@ forwards-summed client m ready (call ∷ calls) typed =
 
 pub scan-once : (m : Memory) (client lift : ℕ) (visits matches : List ℕ) → replied m (Scan client lift visits matches) ≡ 0
     → (a : ℕ) → (a < bucketsOf (m .file) → times a (visited m client lift visits matches) ≡ 1) × (bucketsOf (m .file) ≤ a → times a (visited m client lift visits matches) ≡ 0)
-unfolding replied visited
+unfolding replied visited answered
 scan-once m client lift visits matches done a = (
   scan-visits-once (m .file) (m .table) client lift visits matches done a,
   scan-visits-only (m .file) (m .table) client lift visits matches done a,

@@ -2,7 +2,7 @@
 -- An accepted insert adds one ride, a split moves some, nothing else changes what is held; and a key is sought where alone it can be.
 use Prim.Native.Nat.{ℕ, suc, _+_, _≤_, _<_}
 use mathlib.Core.Path.{_≡_, refl, sym, ap, subst, _∙_}
-use mathlib.Core.Bool.{true, false, not}
+use mathlib.Core.Bool.{Bool, true, false, not}
 use mathlib.Core.List.{List, [], _∷_, _++_, List·Memᴰ}
 use mathlib.Core.Logic.{_⊎_, inl, inr, ⊎-elim, by-cases, _↔_}
 use native.Mathlib.Decide.{ℕ-discrete}
@@ -18,6 +18,7 @@ use Rattle.address.specs.Rules.Grow.{newborn-next, grown-buckets, divided-cases
 use Rattle.address.specs.Rules.Hash.{span-pos}
 use Rattle.layout.specs.Bytes.{Bytes}
 use Rattle.layout.specs.Bytes.Tests.{and-right}
+use Rattle.layout.specs.Replies.{reply}
 use Rattle.bucket.specs.Region.{Ride, Whole, countOf, rideAt, ridesOf, slotOf, kept}
 use Rattle.bucket.specs.Region.Held.{slot-held, held-passes, held-whole, held-more, found-held, absent-held}
 use Rattle.bucket.specs.Region.Keep.{slot-most, kept-member, member-kept}
@@ -28,13 +29,13 @@ use Rattle.file.specs.File.Split.{split-ways}
 use Rattle.file.specs.File.Write.{Shown, shown, bucket-shown}
 use Rattle.answer.specs.Answer.{block}
 use Rattle.answer.specs.Answer.Block.{payload-back}
-use Rattle.route.specs.Way.{ownOf, held, full}
-use Rattle.route.specs.Way.Kept.{existing}
+use Rattle.route.specs.Way.{early, ownOf, held, full}
+use Rattle.route.specs.Way.Kept.{passed, existing, route-sound}
 use Rattle.route.specs.Way.Own.{own-is, held-is, full-is}
 use Rattle.ride.specs.Call.{Outcome, inserted, search}
-use Rattle.ride.specs.Call.Left.{search-ways, insert-ways}
+use Rattle.ride.specs.Call.Left.{Through, search-ways, insert-ways}
 use Rattle.ride.specs.Call.Replied.{inserted-is}
-use Rattle.demands.specs.Run.{Memory, Call, Join, Insert, Search, Split, Scan, Check, View, Parent, Typed, AllTyped, left, after, run, replied, Holds, Accepts, Accepted, payloadIn, Finds, Kept}
+use Rattle.demands.specs.Run.{Memory, Call, Join, Insert, Search, Split, Scan, Check, View, Parent, Typed, AllTyped, left, after, run, replied, answered, Holds, Accepts, Accepted, payloadIn, Finds, Kept}
 
 -- what becomes of the rides of a sound file: it is sound, and holds what it held and some more
 pub record Grown (before now : List ℕ) (more : Ride → Type 0) : Type 0 where
@@ -253,10 +254,14 @@ module _ (file : List ℕ) (bytes : Bytes file) (sound : fileSound file ≡ true
       holds = λ ride. (λ h. inl (divided-holds ride .0 h), ⊎-elim (divided-holds ride .1) (λ none. absurd none));
     }
 
+-- in a sound file a key call that passes 14 and 2 to 6 passes 7
+pub through : (file table : List ℕ) → fileSound file ≡ true → (fits : Bool) (client key : ℕ) → fits ≡ true → reply (early file table client) 0 ≡ 0 → Through fits file table client key
+through file table sound fits client key fit none = record { fit = fit; none = none; sound = route-sound file table client key (passed file table client none) sound }
+
 -- ---- one call, and a run
 
 pub step : (m : Memory) → Bytes (m .file) → fileSound (m .file) ≡ true → (call : Call) → Typed call → Grown (m .file) (after m call .file) (λ ride. Accepts m ride call)
-unfolding after left Typed Accepts replied
+unfolding after left Typed Accepts replied answered
 step m bytes sound (Join client) typed = as-it-was (m .file) bytes sound (m .file) (λ ride. ⊥) refl (λ ride none. none)
 step m bytes sound (Insert client key payload answer) typed = insert-ways (m .file) (m .table) client key payload answer
     (λ o. Grown (m .file) (o .file) (λ ride. (o .answer ≡ 0) × (ride ≡ record { key = key; payload = payload })))
@@ -355,7 +360,7 @@ finds-same key o A B same f = record {
 
 pub run-finds : (m : Memory) → Bytes (m .file) → fileSound (m .file) ≡ true → (calls : List Call) → AllTyped calls → (client key : ℕ) (answer : List ℕ)
     → replied (run m calls) (Search client key answer) ≤ 1 → Finds key (search (run m calls .file) (run m calls .table) client key answer) (Kept m calls)
-unfolding Kept replied
+unfolding Kept replied answered
 run-finds m bytes sound calls typed client key answer fine =
     let grown = whole-run m bytes sound calls typed in
     finds-same key _ (Holds (run m calls .file)) _ (grown .holds) (finds (run m calls .file) (run m calls .table) (grown .bytes) (grown .sound) client key answer fine)

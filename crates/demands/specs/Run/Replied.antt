@@ -12,10 +12,10 @@ use Rattle.file.specs.File.Split.{split-reply, split-ways}
 use Rattle.ride.specs.Call.{Outcome, adjustedTable, search, insert}
 use Rattle.ride.specs.Call.Left.{Refused, search-reply, insert-reply, search-ways, insert-ways}
 use Rattle.scan.specs.Scan.Replied.{scan-reply}
-use Rattle.demands.specs.Run.{Memory, Call, Join, Insert, Search, Split, Scan, Check, View, Parent, left, after, replied, conditions}
+use Rattle.demands.specs.Run.{Memory, Call, Join, Insert, Search, Split, Scan, Check, View, Parent, left, after, replied, answered, conditions}
 
 pub call-replies : (m : Memory) (call : Call) → replied m call ≡ reply (conditions m call) 0
-unfolding replied conditions
+unfolding replied conditions answered
 call-replies m (Join client) = join-reply (m .table) client
 call-replies m (Insert client key payload answer) = insert-reply (m .file) (m .table) client key payload answer
 call-replies m (Search client key answer) = search-reply (m .file) (m .table) client key answer
@@ -32,7 +32,7 @@ refused-left m fits client key answer o r = λ i. record { file = r .file-left i
 
 -- a refusal but 8 and 9 leaves file and table
 pub call-untouched : (m : Memory) (call : Call) → 1 < replied m call → (replied m call ≡ 8 → ⊥) → (replied m call ≡ 9 → ⊥) → after m call ≡ m
-unfolding replied after left
+unfolding replied after left answered
 call-untouched m (Join client) some eight nine = join-ways (λ o. 1 < o .answer → record { file = m .file; table = o .table } ≡ m) (m .table) client
     (λ r e not-zero h. refl) (λ e h. absurd (omega (arith, h))) some
 call-untouched m (Insert client key payload answer) some eight nine = insert-ways (m .file) (m .table) client key payload answer
@@ -55,7 +55,7 @@ call-untouched m (Parent bucket) some eight nine = refl
 pub insert-adjusted : (m : Memory) (client key : ℕ) (payload answer : List ℕ)
     → (replied m (Insert client key payload answer) ≡ 8) ⊎ (replied m (Insert client key payload answer) ≡ 9)
     → after m (Insert client key payload answer) ≡ record { file = m .file; table = adjustedTable (m .file) (m .table) client key }
-unfolding replied after left
+unfolding replied after left answered
 insert-adjusted m client key payload answer = insert-ways (m .file) (m .table) client key payload answer
     (λ o. (o .answer ≡ 8) ⊎ (o .answer ≡ 9) → left o ≡ record { file = m .file; table = adjustedTable (m .file) (m .table) client key })
     (λ o r which. absurd (⊎-elim (r .before .0) (r .before .1) which))
@@ -66,11 +66,11 @@ insert-adjusted m client key payload answer = insert-ways (m .file) (m .table) c
 -- 14 touches nothing: not the answer block either
 pub insert-untouched : (m : Memory) (client key : ℕ) (payload answer : List ℕ) → replied m (Insert client key payload answer) ≡ 14
     → insert (m .file) (m .table) client key payload answer .block ≡ answer
-unfolding replied
+unfolding replied answered
 insert-untouched m client key payload answer = insert-ways (m .file) (m .table) client key payload answer (λ o. o .answer ≡ 14 → o .block ≡ answer)
     (λ o r. r .block-left) (λ w held e. absurd (omega (arith, e))) (λ w free full e. absurd (omega (arith, e))) (λ w free room e. absurd (omega (arith, e)))
 
 pub search-untouched : (m : Memory) (client key : ℕ) (answer : List ℕ) → replied m (Search client key answer) ≡ 14 → search (m .file) (m .table) client key answer .block ≡ answer
-unfolding replied
+unfolding replied answered
 search-untouched m client key answer = search-ways (m .file) (m .table) client key answer (λ o. o .answer ≡ 14 → o .block ≡ answer)
     (λ o r. r .block-left) (λ w held e. absurd (omega (arith, e))) (λ w absent e. absurd (omega (arith, e)))

@@ -1,6 +1,6 @@
 -- Tests over every number below a bound, and the first number that passes one.
 use Prim.Native.Nat.{ℕ, zero, suc, _+_, _-_, _≤_, _<_}
-use mathlib.Core.Path.{_≡_, refl, sym, ap, ap₂, _∙_}
+use mathlib.Core.Path.{_≡_, refl, sym, ap, _∙_}
 use mathlib.Core.Bool.{Bool, true, false, cond, _&&_, true≢false}
 use mathlib.Core.List.{List}
 use mathlib.Core.Logic.{_⊎_, ⊎-elim}
@@ -43,12 +43,6 @@ pub all-of : (test : ℕ → Bool) (n : ℕ) → ((k : ℕ) → k < n → test k
 unfolding allBelow
 all-of test zero h = refl
 all-of test (suc n) h = and-both (allBelow test n) (test n) (all-of test n (λ k l. h k (omega arith))) (h n (omega arith))
-
--- two tests that agree below n
-pub all-same : (f g : ℕ → Bool) (n : ℕ) → ((k : ℕ) → k < n → f k ≡ g k) → allBelow f n ≡ allBelow g n
-unfolding allBelow
-all-same f g zero h = refl
-all-same f g (suc n) h = rw (all-same f g n (λ k l. h k (omega arith)), h n (omega arith))
 
 -- one failure fails the whole
 pub all-fails : (test : ℕ → Bool) (n k : ℕ) → k < n → test k ≡ false → allBelow test n ≡ false
@@ -145,9 +139,3 @@ first-before test (suc c) k i low high = go (test k) refl (first-before test c (
     go : (b : Bool) → test k ≡ b → (suc k ≤ i → i < firstFrom test c (suc k) → test i ≡ false) → i < cond b k (firstFrom test c (suc k)) → test i ≡ false
     go true e rest l = absurd (omega arith)
     go false e rest l = ⊎-elim (λ same. ap test (sym same) ∙ e) (λ more. rest more l) (eq-or-lt-of-le low)
-
--- two tests that agree have the same first number
-pub first-same : (f g : ℕ → Bool) (c k : ℕ) → ((i : ℕ) → k ≤ i → i < k + c → f i ≡ g i) → firstFrom f c k ≡ firstFrom g c k
-unfolding firstFrom
-first-same f g zero k same = refl
-first-same f g (suc c) k same = ap₂ (λ (b : Bool) (n : ℕ). cond b k n) (same k (omega arith) (omega arith)) (first-same f g c (suc k) (λ i low high. same i (omega arith) (omega arith)))
