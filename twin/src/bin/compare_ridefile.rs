@@ -12,7 +12,8 @@ use twin::ridefile::{run, LONGEST_INPUT};
 
 const DEFAULT_CASES: u64 = 100_000;
 const DEFAULT_SEED: u64 = 20_240_611;
-const THREADS: u64 = 2;
+/// More than the cores: each thread waits now and then, for its process or in a pause.
+const THREADS: u64 = 4;
 const PAUSE: Duration = Duration::from_millis(2);
 
 /// How often each letter came with each reply.
