@@ -14,19 +14,11 @@ pub struct Side {
     pub search: Search,
     pub split: fn(&mut [u8]) -> SplitAnswer,
     pub check: fn(&[u8]) -> CheckAnswer,
-    pub scan: Option<Scan>,
+    pub scan: Scan,
     pub view: fn(&[u8], u64) -> ViewAnswer,
     pub parent: fn(u16) -> u32,
     pub forwards: fn(&[u8]) -> u32,
 }
-
-#[cfg(feature = "scan")]
-const LIBRARY_SCAN: Option<Scan> = Some(ffi::scan);
-#[cfg(not(feature = "scan"))]
-const LIBRARY_SCAN: Option<Scan> = None;
-
-/// Whether both sides scan.
-pub const SCANS: bool = LIBRARY_SCAN.is_some();
 
 pub const LIBRARY: Side = Side {
     create: ffi::create,
@@ -35,7 +27,7 @@ pub const LIBRARY: Side = Side {
     search: ffi::search,
     split: ffi::split,
     check: ffi::check,
-    scan: LIBRARY_SCAN,
+    scan: ffi::scan,
     view: ffi::view,
     parent: ffi::parent,
     forwards: ffi::forwards,
@@ -48,7 +40,7 @@ pub const TWIN: Side = Side {
     search: crate::search,
     split: crate::split,
     check: crate::check,
-    scan: Some(crate::scan),
+    scan: crate::scan,
     view: crate::view,
     parent: crate::parent,
     forwards: crate::forwards,

@@ -5,7 +5,8 @@ use Prim.Native.Nat.{ℕ}
 abbrev pub firstBuckets : ℕ
 firstBuckets = 1
 
--- Bucket 0 has no parent; 65,535 says so. Check, split and scan answer it where no bucket is named, and a route entry that is not used holds it.
+-- Bucket 0 has no parent; 65,535 says so. Check, split and scan answer it where no bucket is named, and a route entry
+-- that is not used holds it.
 abbrev pub noBucket : ℕ
 noBucket = 65535
 

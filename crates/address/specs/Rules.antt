@@ -1,5 +1,5 @@
--- The rules of LH*, sentence by sentence as document 01 has them, over the number of first buckets N, which is 1 in every file.
--- Numbers only. The definitions are shut: whoever needs them works from the laws of the modules below.
+-- The rules of LH*, sentence by sentence as document 01 has them, over the number of first buckets N, which is 1 in
+-- every file. Numbers only. The definitions are shut: whoever needs them works from the laws of the modules below.
 pub mod Address
 pub mod Adjust
 pub mod Cases
@@ -56,11 +56,13 @@ level N s a = cond (ltb a (s .pointer) || leb (span N (s .level)) a) (suc (s .le
 pub keeps : ℕ → ℕ → ℕ → ℕ → Bool
 keeps N a j C = eqb (hash N j C) a
 
--- Where bucket a of level j sends a key that it does not keep: with x = h_j(C) and y = h_{j-1}(C), to y if a < y < x, otherwise to x.
+-- Where bucket a of level j sends a key that it does not keep: with x = h_j(C) and y = h_{j-1}(C), to y if a < y < x,
+-- otherwise to x.
 pub onward : ℕ → ℕ → ℕ → ℕ → ℕ
 onward N a j C = cond (ltb a (hash N (j - 1) C) && ltb (hash N (j - 1) C) (hash N j C)) (hash N (j - 1) C) (hash N j C)
 
--- The three fates of a key at bucket a of level j: kept there, sent on to a numbered bucket, or stopped because that bucket is unsound.
+-- The three fates of a key at bucket a of level j: kept there, sent on to a numbered bucket, or stopped because that
+-- bucket is unsound.
 pub fate : ℕ → Bool → ℕ → ℕ → ℕ → Fate
 fate N sound a j C = cond sound (cond (keeps N a j C) Keep (SendOn (onward N a j C))) Unsound
 
@@ -68,22 +70,28 @@ fate N sound a j C = cond sound (cond (keeps N a j C) Keep (SendOn (onward N a j
 pub wrapped : ℕ → ℕ → ℕ → Image
 wrapped N k p = cond (ltb p (span N k)) («at» k p) («at» (suc k) 0)
 
--- Adjustment, only if the first bucket a, of level j, did not keep the key and j > i': i' becomes j-1 and n' becomes a+1, wrapped.
+-- Adjustment, only if the first bucket a, of level j, did not keep the key and j > i': i' becomes j-1 and n' becomes
+-- a+1, wrapped.
 pub adjusted : ℕ → Image → ℕ → ℕ → Bool → Image
 adjusted N image a j kept = cond kept image (cond (ltb (image .level) j) (wrapped N (j - 1) (suc a)) image)
 
 -- The image after a key was sent: it uses the first bucket's address and level.
 pub imageAfter : ℕ → Image → Image → ℕ → Image
 imageAfter N file image C =
-    adjusted N image (address N image C) (level N file (address N image C)) (keeps N (address N image C) (level N file (address N image C)) C)
+    adjusted N image (address N image C) (level N file (address N image C))
+    (keeps N (address N image C) (level N file (address N image C)) C)
 
 -- The bucket born of bucket a as its level went from k to k+1.
 pub child : ℕ → ℕ → ℕ → ℕ
 child N a k = a + span N k
 
--- Split: records of bucket n whose h_{i+1} is not n go to new bucket n + 2^i;
+-- Split: the bucket that it divides is bucket n;
+abbrev pub splitting : Image → ℕ
+splitting s = s .pointer
+
+-- records of bucket n whose h_{i+1} is not n go to new bucket n + 2^i;
 pub newborn : ℕ → Image → ℕ
-newborn N s = child N (s .pointer) (s .level)
+newborn N s = child N (splitting s) (s .level)
 
 -- n grows by 1, and at 2^i it becomes 0 and i grows by 1.
 pub grown : ℕ → Image → Image
@@ -95,7 +103,8 @@ following Keep walk = []
 following (SendOn b) walk = walk b
 following Unsound walk = []
 
--- The buckets that a key meets from bucket a on, bucket after bucket until one keeps it; `most` only bounds the recursion.
+-- The buckets that a key meets from bucket a on, bucket after bucket until one keeps it; `most` only bounds the
+-- recursion.
 pub routeFrom : ℕ → Image → ℕ → ℕ → ℕ → List ℕ
 routeFrom N file C zero a = []
 routeFrom N file C (suc most) a = a ∷ following (fate N true a (level N file a) C) (routeFrom N file C most)
@@ -122,11 +131,13 @@ pub numbers : ℕ → ℕ → List ℕ
 numbers a zero = []
 numbers a (suc c) = a ∷ numbers (suc a) c
 
--- The client sends to each bucket a it believes in, in number order, with message level i'+1 if a < n' or a ≥ 2^i', otherwise i'; round 0.
+-- The client sends to each bucket a it believes in, in number order, with message level i'+1 if a < n' or a ≥ 2^i',
+-- otherwise i'; round 0.
 pub opening : ℕ → Image → List Message
 opening N image = map (λ a. message a (level N image a) 0) (numbers 0 (buckets N image))
 
--- Bucket a sends, for each of the c levels k above m in order, to a + 2^(k-1) with message level k, one round after its cause.
+-- Bucket a sends, for each of the c levels k above m in order, to a + 2^(k-1) with message level k, one round after its
+-- cause.
 pub sends : ℕ → ℕ → ℕ → ℕ → ℕ → List Message
 sends N a r m zero = []
 sends N a r m (suc c) = message (child N a m) (suc m) (suc r) ∷ sends N a r (suc m) c
@@ -141,18 +152,18 @@ handled N file zero queue = []
 handled N file (suc most) [] = []
 handled N file (suc most) (m ∷ queue) = m ∷ handled N file most (queue ++ answers N file m)
 
--- A scan: all that is handled, with as much room as the file has buckets; its visits in order; its last round.
-pub scan : ℕ → Image → Image → List Message
-scan N file image = handled N file (buckets N file) (opening N image)
+-- The messages of a scan in the order in which they are handled, with as much room as the file has buckets; its visits; its last round.
+pub messages : ℕ → Image → Image → List Message
+messages N file image = handled N file (buckets N file) (opening N image)
 
 pub visits : ℕ → Image → Image → List ℕ
-visits N file image = map (λ m. m .to) (scan N file image)
+visits N file image = map (λ m. m .to) (messages N file image)
 
 pub greatest : List ℕ → ℕ
 greatest = foldr max 0
 
 pub lastRound : ℕ → Image → Image → ℕ
-lastRound N file image = greatest (map (λ m. m .round) (scan N file image))
+lastRound N file image = greatest (map (λ m. m .round) (messages N file image))
 
 -- The highest level of a bucket of the file.
 pub highest : ℕ → Image → ℕ
@@ -163,6 +174,7 @@ pub topSpan : ℕ → ℕ → ℕ → ℕ → ℕ
 topSpan N b k zero = span N k
 topSpan N b k (suc most) = cond (leb (span N (suc k)) b) (topSpan N b (suc k) most) (span N k)
 
--- Parent: bucket b above 0 was born of b less the greatest power of two not above b. Bucket 0 (each of the first N) has none.
+-- Parent: bucket b above 0 was born of b less the greatest power of two not above b. Bucket 0 (each of the first N) has
+-- none.
 pub parent : ℕ → ℕ → ℕ
 parent N b = cond (ltb b N) noBucket (b - topSpan N b 0 b)

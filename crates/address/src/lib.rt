@@ -2,8 +2,10 @@
 // how the file grows. Numbers only; `specs/Rules.antt` has each rule as a definition.
 ghost use mathlib.Core.Path.{_≡_};
 ghost use Prim.Native.Nat.{_-_, _≤_, _<_};
-ghost use Rattle.address.specs.Room.{Room, ImageRoom};
-ghost use Rattle.address.specs.Rules.{span, hash, buckets, address, level, onward, fate, wrapped, adjusted, child, newborn, grown, parent};
+ghost use Rattle.address.specs.Limits.{firstBuckets};
+ghost use Rattle.address.specs.Room.{widest, Room, ImageRoom};
+ghost use Rattle.address.specs.Rules.{span, hash, buckets, address, level, onward, fate, wrapped, adjusted};
+ghost use Rattle.address.specs.Rules.{child, splitting, newborn, grown, parent};
 
 // A level and a pointer: the file's own state (i, n), or the image of it that a client has.
 pub struct Image {
@@ -28,10 +30,17 @@ pub const FIRST_BUCKETS: u32 = 1;
 // The highest level that a client's image or a file may have.
 pub const MOST_LEVEL: u32 = 12;
 
+// The most buckets of a file, the most slots of a bucket, and the greatest length of a client table.
+pub const MOST_BUCKETS: u32 = 4096;
+
+pub const MOST_SLOTS: usize = 64;
+
+pub const MOST_TABLE: usize = 2048;
+
 // `first` buckets doubled `level` times: 2^level where a file starts with one bucket.
 pub fn span(first: u32, level: u32) -> u32
     requires { ⌜ Room first level ⌝ }
-    ensures { λ r. ⌜ (r ≡ span first level) × (0 < r) × (r ≤ 16777216) ⌝ }
+    ensures { λ r. ⌜ (r ≡ span first level) × (0 < r) × (r ≤ widest) ⌝ }
 {
     first << level
 }
@@ -39,7 +48,7 @@ pub fn span(first: u32, level: u32) -> u32
 // h_level of a key.
 pub fn hash(first: u32, level: u32, key: u64) -> u32
     requires { ⌜ Room first level ⌝ }
-    ensures { λ r. ⌜ (r ≡ hash first level key) × (r < 16777216) ⌝ }
+    ensures { λ r. ⌜ (r ≡ hash first level key) × (r < widest) ⌝ }
 {
     if first == 1 {
         return (key % (1u64 << level)) as u32;
@@ -136,7 +145,7 @@ fn wrapped(first: u32, level: u32, pointer: u32) -> Image
 
 // A client's image after its first bucket, of the level given, did or did not keep the key.
 pub fn adjusted(first: u32, image: Image, bucket: u32, level: u32, kept: bool) -> Image
-    requires { ⌜ Room first level × (bucket ≤ 16777216) ⌝ }
+    requires { ⌜ Room first level × (bucket ≤ widest) ⌝ }
     ensures { λ r. ⌜ r ≡ adjusted first image bucket level kept ⌝ }
 {
     if kept {
@@ -150,10 +159,17 @@ pub fn adjusted(first: u32, image: Image, bucket: u32, level: u32, kept: bool) -
 
 // The bucket born of a bucket as its level went one up from `level`.
 pub fn child(first: u32, bucket: u32, level: u32) -> u32
-    requires { ⌜ Room first level × (bucket ≤ 16777216) ⌝ }
+    requires { ⌜ Room first level × (bucket ≤ widest) ⌝ }
     ensures { λ r. ⌜ r ≡ child first bucket level ⌝ }
 {
     bucket + span(first, level)
+}
+
+// The bucket that the next split divides.
+pub fn splitting(image: Image) -> u32
+    ensures { λ r. ⌜ r ≡ splitting image ⌝ }
+{
+    image.pointer
 }
 
 // The bucket that the next split makes.
@@ -174,7 +190,7 @@ pub fn grown(first: u32, image: Image) -> Image
 
 // The bucket of whose split this one was born, by the leading zeros of its number.
 pub fn parent(bucket: u16) -> u32
-    ensures { λ r. ⌜ r ≡ parent 1 bucket ⌝ }
+    ensures { λ r. ⌜ r ≡ parent firstBuckets bucket ⌝ }
 {
     let number = bucket as u32;
     if number == 0 {

@@ -1,9 +1,11 @@
--- A bucket's region as document 01 lays it out: a head of 8 bytes, then S slots of 24 bytes. What its bytes hold, when it is sound, and the bytes of a list of rides.
+-- A bucket's region as document 01 lays it out: a head of 8 bytes, then S slots of 24 bytes. What its bytes hold, when
+-- it is sound, and the bytes of a list of rides.
 pub mod Judge
 pub mod Keep
 pub mod Rides
 pub mod Divide
 pub mod Encode
+pub mod Every
 pub mod Held
 pub mod Single
 pub mod Sound
@@ -16,7 +18,7 @@ use lib.Dec.{leb, eqb}
 use lib.ListN.{length, drop, replicate}
 use Rattle.address.specs.declared.Image.{Image}
 use Rattle.address.specs.Rules.{address, level}
-use Rattle.layout.specs.Bytes.{Bytes, byteAt, leAt, leBytes, marked, allBelow, allZero, firstFrom, part}
+use Rattle.layout.specs.Bytes.{Bytes, byteAt, leAt, leBytes, marked, allBelow, allZero, firstFrom, edit, part}
 
 -- A ride: a key and its payload of 14 bytes.
 pub record Ride : Type 0 where
@@ -48,7 +50,8 @@ abbrev pub countOf : List ℕ → ℕ
 countOf region = leAt 2 region 4
 
 pub headFormed : List ℕ → Bool
-headFormed region = marked region 0 bucketMark && eqb (byteAt region 3) 0 && eqb (byteAt region 6) 0 && eqb (byteAt region 7) 0
+headFormed region = marked region 0 bucketMark && eqb (byteAt region 3) 0 && eqb (byteAt region 6) 0
+    && eqb (byteAt region 7) 0
 
 -- Slot, 24 bytes: mark 4C 52; key, 8 bytes; payload, 14 bytes.
 pub slotUsed : List ℕ → ℕ → Bool
@@ -80,8 +83,9 @@ pub distinct : List ℕ → Bool
 distinct [] = true
 distinct (key ∷ keys) = every (λ other. not (eqb key other)) keys && distinct keys
 
--- A region of S slots is sound at a level if its head is well formed, its level is that one, its count is at most S, its slots in use come first,
--- an unused slot is all zero, each of its keys passes the test of its own bucket, and no key stands twice. Its length is the file's matter.
+-- A region of S slots is sound at a level if its head is well formed, its level is that one, its count is at most S,
+-- its slots in use come first, an unused slot is all zero, each of its keys passes the test of its own bucket, and no
+-- key stands twice. Its length is the file's matter.
 pub headSound : ℕ → ℕ → List ℕ → Bool
 headSound S j region = headFormed region && eqb (levelOf region) j && leb (countOf region) S
 
@@ -93,7 +97,8 @@ soundWith S j own region =
     && every own (keysOf (ridesOf region))
     && distinct (keysOf (ridesOf region))
 
--- Bucket a is sound in state (i, n): its level is i+1 where a < n or a ≥ 2^i and i otherwise, and each of its keys has a as its address.
+-- Bucket a is sound in state (i, n): its level is i+1 where a < n or a ≥ 2^i and i otherwise, and each of its keys has
+-- a as its address.
 pub bucketSound : ℕ → Image → ℕ → ℕ → List ℕ → Bool
 bucketSound N s S a region = soundWith S (level N s a) (λ key. eqb (address N s key) a) region
 
@@ -112,7 +117,8 @@ pub slotsBytes : List Ride → List ℕ
 slotsBytes [] = []
 slotsBytes (ride ∷ rides) = slotBytes ride ++ slotsBytes rides
 
--- A region with a head's count and a list of rides, slots in use first, in order of arrival; an unused slot is all zero.
+-- A region with a head's count and a list of rides, slots in use first, in order of arrival; an unused slot is all
+-- zero.
 pub layOut : ℕ → ℕ → ℕ → List Ride → List ℕ
 layOut S j count rides = headBytes j count ++ (slotsBytes rides ++ replicate (24 * (S - length rides)) 0)
 
@@ -124,3 +130,10 @@ encode S j rides = layOut S j (length rides) rides
 pub kept : (ℕ → Bool) → List Ride → List Ride
 kept test [] = []
 kept test (ride ∷ rides) = cond (test (ride .key)) (ride ∷ kept test rides) (kept test rides)
+
+-- Two regions, at places of some bytes, once the first one's rides are divided between them at level j: those that a
+-- test keeps stay, the others are in the second, both groups in their order and packed; freed slots are zero.
+abbrev pub halved : (ℕ → Bool) → ℕ → ℕ → ℕ → ℕ → List ℕ → List ℕ
+halved own S j old new bytes =
+    edit new (encode S j (kept (λ key. not (own key)) (ridesOf (part old (slotAt S) bytes))))
+    (edit old (encode S j (kept own (ridesOf (part old (slotAt S) bytes)))) bytes)

@@ -4,6 +4,7 @@ ghost use mathlib.Core.Bool.{_&&_, not, cond, true, false};
 ghost use Prim.Native.Nat.{ℕ, _+_, _*_, _-_, _≤_, _<_};
 ghost use lib.Dec.{eqb};
 ghost use lib.ListN.{length, replicate};
+ghost use Rattle.address.specs.Limits.{mostSlots};
 ghost use Rattle.address.specs.Room.{Room};
 ghost use Rattle.address.specs.Rules.{keeps};
 ghost use Rattle.layout.specs.Bytes.{leBytes, firstFrom, edit};
@@ -25,7 +26,7 @@ fn head_sound(region: &[u8], slots: u32, level: u32) -> bool
 
 // The key in a slot.
 pub fn key_at(region: &[u8], slot: usize) -> u64
-    requires { ⌜ (slotAt slot + 24 ≤ length (now region)) × (slot < 64) ⌝ }
+    requires { ⌜ (slotAt slot + 24 ≤ length (now region)) × (slot < mostSlots) ⌝ }
     ensures { λ r. ⌜ r ≡ keyAt (now (region .entry)) slot ⌝ }
 {
     layout::read8(region, 8 + 24 * slot + 2)
@@ -33,7 +34,7 @@ pub fn key_at(region: &[u8], slot: usize) -> u64
 
 // The slot of the first ones that holds a key, and their count if none does.
 fn find(region: &[u8], count: usize, key: u64) -> usize
-    requires { ⌜ (slotAt count ≤ length (now region)) × (count ≤ 64) ⌝ }
+    requires { ⌜ (slotAt count ≤ length (now region)) × (count ≤ mostSlots) ⌝ }
     ensures { λ r. ⌜ r ≡ firstFrom (λ (k : ℕ). eqb (keyAt (now (region .entry)) k) key) count 0 ⌝ }
 {
     let mut k = 0;
@@ -74,7 +75,7 @@ pub fn chosen(test: bool, one: usize, other: usize) -> usize
 
 // Whether a slot is marked and its key, which is given, belongs.
 fn slot_fits(region: &[u8], slot: usize, first: u32, bucket: u32, level: u32, key: u64) -> bool
-    requires { ⌜ Room first level × (slotAt slot + 24 ≤ length (now region)) × (slot < 64) ⌝ }
+    requires { ⌜ Room first level × (slotAt slot + 24 ≤ length (now region)) × (slot < mostSlots) ⌝ }
     ensures { λ r. ⌜ r ≡ (slotUsed (now (region .entry)) slot && keeps first bucket level key) ⌝ }
 {
     layout::has_mark(region, 8 + 24 * slot, b"LR") & (address::hash(first, level, key) == bucket)
@@ -89,7 +90,7 @@ fn slots_paired(
     level: u32,
     key: u64,
 ) -> Judged
-    requires { ⌜ Room first level × (slotAt count ≤ length (now region)) × (count ≤ 64) ⌝ }
+    requires { ⌜ Room first level × (slotAt count ≤ length (now region)) × (count ≤ mostSlots) ⌝ }
     ensures { λ r. ⌜ SlotsJudged (keeps first bucket level) (now (region .entry)) count key (r .sound) (r .place) ⌝ }
 {
     let mut place = count;
@@ -116,10 +117,11 @@ fn fingerprint(key: u64) -> usize
     (folded * 1640531527 / 8388608 % 512) as usize
 }
 
-// One more than a slot of the first ones that holds a key, and 0 if none does: of the key's fingerprint they are the latest, one
-// less than a number that is not 0, the one before that, and so on.
+// One more than a slot of the first ones that holds a key, and 0 if none does: of the key's fingerprint they are the
+// latest, one less than a number that is not 0, the one before that, and so on.
 fn seek(region: &[u8], before: &[u8], count: usize, latest: usize, key: u64) -> usize
-    requires { ⌜ (slotAt count ≤ length (now region)) × (count ≤ 64) × Chained (now region) (now before) count × (latest ≡ latestOf (now region) (fingerprint key) count) ⌝ }
+    requires { ⌜ (slotAt count ≤ length (now region)) × (count ≤ mostSlots) × Chained (now region) (now before) count
+        × (latest ≡ latestOf (now region) (fingerprint key) count) ⌝ }
     ensures { λ r. ⌜ SoughtAt (now (region .entry)) key count r ⌝ }
 {
     let mut next = latest;
@@ -143,8 +145,8 @@ fn slot_before(found: usize, count: usize) -> usize
     found - 1
 }
 
-// The same as `slots_sound`, with tables to chain each slot to the latest before it of its key's fingerprint, where an equal
-// key would be met.
+// The same as `slots_sound`, with tables to chain each slot to the latest before it of its key's fingerprint, where an
+// equal key would be met.
 fn slots_chained(
     region: &[u8],
     count: usize,
@@ -155,7 +157,8 @@ fn slots_chained(
     latest: &mut [u8],
     before: &mut [u8],
 ) -> Judged
-    requires { ⌜ Room first level × (slotAt count ≤ length (now region)) × (count ≤ 64) × (now latest ≡ replicate 512 0) × (length (now before) ≡ 64) ⌝ }
+    requires { ⌜ Room first level × (slotAt count ≤ length (now region)) × (count ≤ mostSlots) × (now latest ≡ replicate 512 0)
+        × (length (now before) ≡ mostSlots) ⌝ }
     ensures { λ r. ⌜ SlotsJudged (keeps first bucket level) (now (region .entry)) count key (r .sound) (r .place) ⌝ }
 {
     let mut k = 0;
@@ -181,17 +184,17 @@ fn slots_chained(
     }
 }
 
-// Whether each slot in use is marked, each key belongs and none stands twice: few keys are compared with one another, many are
-// chained.
+// Whether each slot in use is marked, each key belongs and none stands twice: few keys are compared with one another,
+// many are chained.
 fn slots_sound(region: &[u8], count: usize, first: u32, bucket: u32, level: u32, key: u64) -> Judged
-    requires { ⌜ Room first level × (slotAt count ≤ length (now region)) × (count ≤ 64) ⌝ }
+    requires { ⌜ Room first level × (slotAt count ≤ length (now region)) × (count ≤ mostSlots) ⌝ }
     ensures { λ r. ⌜ SlotsJudged (keeps first bucket level) (now (region .entry)) count key (r .sound) (r .place) ⌝ }
 {
     if count <= 8 {
         return slots_paired(region, count, first, bucket, level, key);
     }
     let mut latest = [0u8; 512];
-    let mut before = [0u8; 64];
+    let mut before = [0u8; address::MOST_SLOTS];
     slots_chained(
         region,
         count,
@@ -206,8 +209,9 @@ fn slots_sound(region: &[u8], count: usize, first: u32, bucket: u32, level: u32,
 
 // Judges a region as that of a bucket of a level, and finds a key in it.
 pub fn judge(region: &[u8], slots: u32, first: u32, bucket: u32, level: u32, key: u64) -> Judged
-    requires { ⌜ Room first level × (length (now region) ≡ slotAt slots) × (slots ≤ 64) ⌝ }
-    ensures { λ r. ⌜ (r .sound ≡ soundWith slots level (keeps first bucket level) (now (region .entry))) × (r .sound ≡ true → r .place ≡ slotOf (now (region .entry)) key) ⌝ }
+    requires { ⌜ Room first level × (length (now region) ≡ slotAt slots) × (slots ≤ mostSlots) ⌝ }
+    ensures { λ r. ⌜ (r .sound ≡ soundWith slots level (keeps first bucket level) (now (region .entry)))
+        × (r .sound ≡ true → r .place ≡ slotOf (now (region .entry)) key) ⌝ }
 {
     if !head_sound(region, slots, level) {
         return unsound();
@@ -226,8 +230,11 @@ pub fn judge(region: &[u8], slots: u32, first: u32, bucket: u32, level: u32, key
 
 // Places a ride in the first free slot, and answers the count then held.
 pub fn place(region: &mut [u8], count: usize, key: u64, payload: &[u8]) -> usize
-    requires { ⌜ (slotAt count + 24 ≤ length (now region)) × (count < 64) × (length (now payload) ≡ 14) ⌝ }
-    ensures { λ r. ⌜ (r ≡ count + 1) × (now (region .exit) ≡ edit 4 (leBytes 2 (count + 1)) (edit (slotAt count) (slotBytes (record { key = key; payload = now (payload .entry) })) (now (region .entry)))) ⌝ }
+    requires { ⌜ (slotAt count + 24 ≤ length (now region)) × (count < mostSlots) × (length (now payload) ≡ 14) ⌝ }
+    ensures { λ r. ⌜ (r ≡ count + 1)
+        × (now (region .exit) ≡ edit 4 (leBytes 2 (count + 1))
+        (edit (slotAt count) (slotBytes (record { key = key; payload = now (payload .entry) })) (now (region .entry))))
+        ⌝ }
 {
     let at = 8 + 24 * count;
     layout::put(region, at, b"LR");

@@ -1,5 +1,6 @@
--- A client table as document 01 lays it out: 1 to 256 records of 8 bytes, each a client's image. When it is sound, what an image is, and what joining leaves.
-pub mod Kept
+-- A client table as document 01 lays it out: 1 to 256 records of 8 bytes, each a client's image. When it is sound, what
+-- an image is, and what joining leaves.
+pub mod Keeping
 pub mod Laws
 use Prim.Native.Nat.{ℕ, _*_, _/_, _%_, _+_}
 use mathlib.Core.Bool.{Bool, cond, not, _&&_}
@@ -31,7 +32,8 @@ imageOf table client = «at» (byteAt table (8 * client + 2)) (leAt 2 table (8 *
 -- A client record passes 4 unless it is ill formed, i' > 12 or n' ≥ 2^i'.
 pub recordFormed : List ℕ → ℕ → Bool
 recordFormed table client =
-    marked table (8 * client) clientMark && eqb (byteAt table (8 * client + 3)) 0 && eqb (byteAt table (8 * client + 6)) 0 && eqb (byteAt table (8 * client + 7)) 0
+    marked table (8 * client) clientMark && eqb (byteAt table (8 * client + 3)) 0
+    && eqb (byteAt table (8 * client + 6)) 0 && eqb (byteAt table (8 * client + 7)) 0
 
 pub imageFormed : Image → Bool
 imageFormed image = leb (image .level) mostLevel && ltb (image .pointer) (span firstBuckets (image .level))

@@ -4,7 +4,8 @@ ghost use mathlib.Core.Path.{_≡_};
 ghost use Prim.Native.Nat.{_+_, _*_, _≤_, _<_};
 ghost use lib.ListN.{length};
 ghost use Rattle.layout.specs.Replies.{reply};
-ghost use Rattle.client.specs.Table.{Joined, imageOf, recordFormed, imageFormed, recordSound, tableRefusals, withImage, join};
+ghost use Rattle.client.specs.Table.{Joined, imageOf, recordFormed, imageFormed, recordSound, tableRefusals};
+ghost use Rattle.client.specs.Table.{withImage, join};
 
 // A client's record, judged.
 pub struct Client {
@@ -17,7 +18,7 @@ pub fn table_refusal(table: &[u8], client: u64) -> u8
     ensures { λ r. ⌜ r ≡ reply (tableRefusals (now (table .entry)) client) 0 ⌝ }
 {
     let long = table.len();
-    let fits = (0 < long) & (long <= 2048) & (long % 8 == 0);
+    let fits = (0 < long) & (long <= address::MOST_TABLE) & (long % 8 == 0);
     if !fits {
         return 2;
     }
@@ -53,7 +54,8 @@ fn image_formed(image: Image) -> bool
 // A client's record, read and judged.
 pub fn client_of(table: &[u8], client: u64) -> Client
     requires { ⌜ 8 * client + 8 ≤ length (now table) ⌝ }
-    ensures { λ r. ⌜ (r .sound ≡ recordSound (now (table .entry)) client) × (r .image ≡ imageOf (now (table .entry)) client) ⌝ }
+    ensures { λ r. ⌜ (r .sound ≡ recordSound (now (table .entry)) client)
+        × (r .image ≡ imageOf (now (table .entry)) client) ⌝ }
 {
     let place = client as usize;
     let at = 8 * place;

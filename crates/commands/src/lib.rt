@@ -3,7 +3,8 @@
 ghost use mathlib.Core.Path.{_≡_};
 ghost use Prim.Native.Nat.{_+_, _≤_, _<_};
 ghost use lib.ListN.{length};
-ghost use Rattle.commands.specs.Text.{numberOf, numberFrom, placeOf, lineEnd, limitAfter, named, ofNumbers, commandOf};
+ghost use Rattle.commands.specs.Text.{numberOf, numberFrom, placeOf, lineEnd, limitAfter, named, ofNumbers};
+ghost use Rattle.commands.specs.Text.{commandOf};
 
 // What a line asks for: a split; an insert or a search by client and key; a scan by client and lift.
 pub enum Command {

@@ -14,28 +14,48 @@ use Rattle.file.specs.File.{figuresFit, bucketsOf, fileSound, create}
 use Rattle.file.specs.File.Create.{create-reply, create-left}
 use Rattle.ride.specs.Call.{adjustedTable, search, insert}
 use Rattle.scan.specs.Scan.{scan}
-use Rattle.scan.specs.Scan.Accepted.{scan-refused}
-use Rattle.demands.specs.Run.{Memory, Call, Insert, Search, Scan, AllTyped, after, run, replied, conditions, Finds, Kept, Ready, sent, Reached, believed, wrongFirst, forwardsOf, summed, visited, NotJoined}
-use Rattle.demands.specs.Run.Clients.{ready-run, sent-reaches, wrong-sends, forwards-summed, scan-once}
+use Rattle.scan.specs.Scan.Outcome.{scan-refused}
+use Rattle.demands.specs.Run.{Memory, Call, Insert, Search, Scan, AllTyped, after, run}
+use Rattle.demands.specs.Run.{replied, conditions}
+use Rattle.demands.specs.Run.{Finds, Kept, Ready, sent, Reached, believed, wrongFirst}
+use Rattle.demands.specs.Run.{forwardsOf, summed}
+use Rattle.demands.specs.Run.{visited, NotJoined}
+use Rattle.demands.specs.Run.Clients.{ready-run, sent-reaches, wrong-sends, forwards-summed}
+use Rattle.demands.specs.Run.Clients.{scan-once}
 use Rattle.demands.specs.Run.Held.{whole-run, run-finds}
-use Rattle.demands.specs.Run.Replied.{call-replies, call-untouched, insert-adjusted, insert-untouched, search-untouched}
+use Rattle.demands.specs.Run.Replied.{call-replies, call-untouched, insert-adjusted}
+use Rattle.demands.specs.Run.Replied.{insert-untouched}
+use Rattle.demands.specs.Run.Replied.{search-untouched}
 
--- Demand 1. Every entry point takes anything at all, judges it itself and gives exactly the numbered reply that document 01 fixes, first match wins.
--- A refusal changes nothing but what 01 names.
+-- Demand 1. Every entry point takes anything at all, judges it itself and gives exactly the
+-- numbered reply that document 01 fixes, first match wins. A refusal changes nothing but what 01
+-- names.
 pub record Demand1 (m : Memory) : Type 0 where
   -- the reply is the first whose condition holds, and 0 if none does
   pub replies : (call : Call) → replied m call ≡ reply (conditions m call) 0
-  pub create-replies : (b S M : ℕ) → create (m .file) b S M .answer ≡ reply (refuse 13 (not (figuresFit (length (m .file)) b S M)) ∷ []) 0
+  pub create-replies : (b S M : ℕ)
+      → create (m .file) b S M .answer
+      ≡ reply (refuse 13 (not (figuresFit (length (m .file)) b S M)) ∷ []) 0
   -- replies 2 to 14 leave file and table untouched, except that 8 and 9 adjust the image
-  pub untouched : (call : Call) → 1 < replied m call → (replied m call ≡ 8 → ⊥) → (replied m call ≡ 9 → ⊥) → after m call ≡ m
-  pub adjusted : (client key : ℕ) (payload answer : List ℕ) → (replied m (Insert client key payload answer) ≡ 8) ⊎ (replied m (Insert client key payload answer) ≡ 9)
-      → after m (Insert client key payload answer) ≡ record { file = m .file; table = adjustedTable (m .file) (m .table) client key }
-  pub create-untouched : (b S M : ℕ) → create (m .file) b S M .answer ≡ 13 → create (m .file) b S M .file ≡ m .file
+  pub untouched : (call : Call) → 1 < replied m call → (replied m call ≡ 8 → ⊥)
+      → (replied m call ≡ 9 → ⊥)
+      → after m call ≡ m
+  pub adjusted : (client key : ℕ) (payload answer : List ℕ)
+      → (replied m (Insert client key payload answer) ≡ 8)
+      ⊎ (replied m (Insert client key payload answer) ≡ 9)
+      → after m (Insert client key payload answer)
+      ≡ record { file = m .file; table = adjustedTable (m .file) (m .table) client key }
+  pub create-untouched : (b S M : ℕ) → create (m .file) b S M .answer ≡ 13
+      → create (m .file) b S M .file ≡ m .file
   -- 14 touches nothing, not even the answer block
-  pub insert-block : (client key : ℕ) (payload answer : List ℕ) → replied m (Insert client key payload answer) ≡ 14 → insert (m .file) (m .table) client key payload answer .block ≡ answer
-  pub search-block : (client key : ℕ) (answer : List ℕ) → replied m (Search client key answer) ≡ 14 → search (m .file) (m .table) client key answer .block ≡ answer
+  pub insert-block : (client key : ℕ) (payload answer : List ℕ)
+      → replied m (Insert client key payload answer) ≡ 14
+      → insert (m .file) (m .table) client key payload answer .block ≡ answer
+  pub search-block : (client key : ℕ) (answer : List ℕ) → replied m (Search client key answer) ≡ 14
+      → search (m .file) (m .table) client key answer .block ≡ answer
   -- a refused scan leaves both lists and answers counts 0
-  pub scan-lists : (client lift : ℕ) (visits matches : List ℕ) → (scan (m .file) (m .table) client lift visits matches .answer ≡ 0 → ⊥)
+  pub scan-lists : (client lift : ℕ) (visits matches : List ℕ)
+      → (scan (m .file) (m .table) client lift visits matches .answer ≡ 0 → ⊥)
       → (scan (m .file) (m .table) client lift visits matches .visits ≡ 0)
       × (scan (m .file) (m .table) client lift visits matches .matches ≡ 0)
       × (scan (m .file) (m .table) client lift visits matches .visitList ≡ visits)
@@ -53,33 +73,55 @@ demand-1 m = record {
   scan-lists = scan-refused (m .file) (m .table);
 }
 
--- Demand 2. In a sound file, with any table whatever, after any run: a search that is not refused finds exactly the rides held at the start and those accepted since, each
--- with its payload, across any splits; and the file is sound.
+-- Demand 2. In a sound file, with any table whatever, after any run: a search that is not refused
+-- finds exactly the rides held at the start and those accepted since, each with its payload, across
+-- any splits; and the file is sound.
 pub record Demand2 (m : Memory) (calls : List Call) : Type 0 where
   pub sound : fileSound (run m calls .file) ≡ true
-  pub found : (client key : ℕ) (answer : List ℕ) → replied (run m calls) (Search client key answer) ≤ 1
+  pub found : (client key : ℕ) (answer : List ℕ)
+      → replied (run m calls) (Search client key answer) ≤ 1
       → Finds key (search (run m calls .file) (run m calls .table) client key answer) (Kept m calls)
 
-pub demand-2 : (m : Memory) → Bytes (m .file) → fileSound (m .file) ≡ true → (calls : List Call) → AllTyped calls → Demand2 m calls
-demand-2 m bytes sound calls typed = record { sound = whole-run m bytes sound calls typed .sound; found = run-finds m bytes sound calls typed }
+pub demand-2 : (m : Memory) → Bytes (m .file) → fileSound (m .file) ≡ true → (calls : List Call)
+    → AllTyped calls
+    → Demand2 m calls
+demand-2 m bytes sound calls typed =
+    record {
+      sound = whole-run m bytes sound calls typed .sound;
+      found = run-finds m bytes sound
+          calls typed;
+    }
 
--- Demand 3. After any run of a sound file and a sound table with no client ahead, and so after each call of it: all of that holds again; whatever key is sent next reaches its
--- own bucket in at most two forwards, each to a higher bucket; a client's wrong first sends in the run number at most the buckets at the end less those it believed in at the
--- start, its forwards at most twice that; a scan that is accepted next visits each bucket once.
+-- Demand 3. After any run of a sound file and a sound table with no client ahead, and so after each
+-- call of it: all of that holds again; whatever key is sent next reaches its own bucket in at most
+-- two forwards, each to a higher bucket; a client's wrong first sends in the run number at most the
+-- buckets at the end less those it believed in at the start, its forwards at most twice that; a
+-- scan that is accepted next visits each bucket once.
 pub record Demand3 (m : Memory) (calls : List Call) : Type 0 where
   pub ready : Ready (run m calls)
   pub reached : (call : Call) → Reached (run m calls) (sent (run m calls) call)
-  pub wrong : (client : ℕ) → exists (m .table) client ≡ true → NotJoined client calls → summed (wrongFirst client) m calls ≤ bucketsOf (run m calls .file) - believed client m
-  pub forwarded : (client : ℕ) → exists (m .table) client ≡ true → NotJoined client calls → summed (forwardsOf client) m calls ≤ 2 * (bucketsOf (run m calls .file) - believed client m)
-  pub scanned : (client lift : ℕ) (visits matches : List ℕ) → replied (run m calls) (Scan client lift visits matches) ≡ 0
-      → (a : ℕ) → (a < bucketsOf (run m calls .file) → times a (visited (run m calls) client lift visits matches) ≡ 1)
-      × (bucketsOf (run m calls .file) ≤ a → times a (visited (run m calls) client lift visits matches) ≡ 0)
+  pub wrong : (client : ℕ) → exists (m .table) client ≡ true → NotJoined client calls
+      → summed (wrongFirst client) m calls ≤ bucketsOf (run m calls .file) - believed client m
+  pub forwarded : (client : ℕ) → exists (m .table) client ≡ true → NotJoined client calls
+      → summed (forwardsOf client) m calls ≤ 2 * (bucketsOf (run m calls .file) - believed client m)
+  pub scanned : (client lift : ℕ) (visits matches : List ℕ)
+      → replied (run m calls) (Scan client lift visits matches) ≡ 0
+      → (a : ℕ)
+      → (a < bucketsOf (run m calls .file)
+      → times a (visited (run m calls) client lift visits matches) ≡ 1)
+      × (bucketsOf (run m calls .file) ≤ a
+      → times a (visited (run m calls) client lift visits matches) ≡ 0)
 
 pub demand-3 : (m : Memory) → Ready m → (calls : List Call) → AllTyped calls → Demand3 m calls
 demand-3 m ready calls typed = record {
   ready = ready-run m ready calls typed;
   reached = sent-reaches (run m calls) (ready-run m ready calls typed);
   wrong = λ client there old. omega (arith, wrong-sends client m ready there calls typed old);
-  forwarded = λ client there old. omega (arith, wrong-sends client m ready there calls typed old, forwards-summed client m ready calls typed);
+  forwarded = λ client there old. omega (
+    arith,
+    wrong-sends client m ready there calls typed old,
+    forwards-summed client m ready calls
+        typed,
+  );
   scanned = scan-once (run m calls);
 }

@@ -1,4 +1,5 @@
--- Runs of calls. What a call does to file and table, and what it answers, are the definitions that its contract cites.
+-- Runs of calls. What a call does to file and table, and what it answers, are the definitions that
+-- its contract cites.
 pub mod Clients
 pub mod Held
 pub mod Replied
@@ -11,14 +12,16 @@ use mathlib.Core.Logic.{_⊎_, _↔_}
 use lib.Dec.{leb, ltb, eqb}
 use lib.ListN.{length, take}
 use Rattle.address.specs.Limits.{firstBuckets}
-use Rattle.address.specs.Rules.{NotAhead, buckets, address, newborn, forwards, parent}
+use Rattle.address.specs.Rules.{NotAhead, buckets, address, splitting, newborn, forwards, parent}
 use Rattle.address.specs.Rules.Route.{Delivered}
 use Rattle.layout.specs.Bytes.{Bytes, allZero, part}
 use Rattle.layout.specs.Replies.{Refusal, refuse, reply}
-use Rattle.bucket.specs.Region.{Ride, ridesOf}
+use Rattle.bucket.specs.Region.{Ride, ridesOf, every}
 use Rattle.client.specs.Table.{Joined, exists, imageOf, tableSound, tableRefusals, join}
-use Rattle.file.specs.File.{Checked, Splitted, mostOf, stateOf, bucketsOf, headerSound, regionOf, bucketSoundIn, fileSound, lowestUnsound, check, view, split}
-use Rattle.route.specs.Way.{early, cut, everyOn, wayOf, ownOf, held, full}
+use Rattle.file.specs.File.{Checked, SplitOutcome, mostOf, stateOf, bucketsOf, headerSound, regionOf}
+use Rattle.file.specs.File.{bucketSoundIn}
+use Rattle.file.specs.File.{fileSound, lowestUnsound, check, view, split}
+use Rattle.route.specs.Way.{early, cut, wayOf, ownOf, held, full}
 use Rattle.ride.specs.Call.{Outcome, search, insert}
 use Rattle.scan.specs.Scan.{Scanned, matchesOn, visitsOf, scan}
 
@@ -27,7 +30,8 @@ pub record Memory : Type 0 where
   pub file : List ℕ
   pub table : List ℕ
 
--- A call with its arguments. A list is a lent buffer as it stands before the call: a payload, an answer block, a visit list, a match list.
+-- A call with its arguments. A list is a lent buffer as it stands before the call: a payload, an
+-- answer block, a visit list, a match list.
 pub data Call : Type 0 where
   Join : ℕ → Call
   Insert : ℕ → ℕ → List ℕ → List ℕ → Call
@@ -58,7 +62,7 @@ abbrev pub Answer : Call → Type 0
 Answer (Join client) = Joined
 Answer (Insert client key payload answer) = Outcome
 Answer (Search client key answer) = Outcome
-Answer Split = Splitted
+Answer Split = SplitOutcome
 Answer (Scan client lift visits matches) = Scanned
 Answer Check = Checked
 Answer (View bucket) = List ℕ
@@ -66,7 +70,8 @@ Answer (Parent bucket) = ℕ
 
 pub answered : (m : Memory) (call : Call) → Answer call
 answered m (Join client) = join (m .table) client
-answered m (Insert client key payload answer) = insert (m .file) (m .table) client key payload answer
+answered m (Insert client key payload answer) = insert (m .file) (m .table) client key payload
+    answer
 answered m (Search client key answer) = search (m .file) (m .table) client key answer
 answered m Split = split (m .file)
 answered m (Scan client lift visits matches) = scan (m .file) (m .table) client lift visits matches
@@ -96,7 +101,8 @@ AllTyped (call ∷ calls) = Typed call × AllTyped calls
 
 -- ---- demand 1
 
--- The number that a call replies. The view and the parent give no reply number; 0 stands for them, and they are never refused.
+-- The number that a call replies. The view and the parent give no reply number; 0 stands for them,
+-- and they are never refused.
 pub replied : Memory → Call → ℕ
 replied m (Join client) = answered m (Join client) .answer
 replied m (Insert client key payload answer) = answered m (Insert client key payload answer) .answer
@@ -107,35 +113,42 @@ replied m Check = answered m Check .answer
 replied m (View bucket) = 0
 replied m (Parent bucket) = 0
 
--- Each reply with its condition, in document 01's order: the first match wins, and 0 is left. (1 is no refusal, but it has its condition like one.)
+-- Each reply with its condition, in document 01's order: the first match wins, and 0 is left. (1 is
+-- no refusal, but it has its condition like one.)
 pub conditions : Memory → Call → List Refusal
 conditions m (Join client) = tableRefusals (m .table) client
 conditions m (Insert client key payload answer) =
     refuse 14 (not (eqb (length answer) 24 && eqb (length payload) 14))
     ∷ (early (m .file) (m .table) client
-    ++ (refuse 7 (not (everyOn (bucketSoundIn (m .file)) (wayOf (m .file) (imageOf (m .table) client) key)))
+    ++ (refuse 7
+    (not (every (bucketSoundIn (m .file)) (wayOf (m .file) (imageOf (m .table) client) key)))
     ∷ refuse 8 (held (m .file) key)
     ∷ refuse 9 (full (m .file) key)
     ∷ []))
 conditions m (Search client key answer) =
     refuse 14 (not (eqb (length answer) 24))
     ∷ (early (m .file) (m .table) client
-    ++ (refuse 7 (not (everyOn (bucketSoundIn (m .file)) (wayOf (m .file) (imageOf (m .table) client) key)))
+    ++ (refuse 7
+    (not (every (bucketSoundIn (m .file)) (wayOf (m .file) (imageOf (m .table) client) key)))
     ∷ refuse 1 (not (held (m .file) key))
     ∷ []))
 conditions m Split =
     refuse 5 (not (headerSound (m .file)))
     ∷ refuse 10 (leb (mostOf (m .file)) (bucketsOf (m .file)))
-    ∷ refuse 7 (not (bucketSoundIn (m .file) (stateOf (m .file) .pointer)))
+    ∷ refuse 7 (not (bucketSoundIn (m .file) (splitting (stateOf (m .file)))))
     ∷ refuse 7 (not (allZero (regionOf (m .file) (newborn firstBuckets (stateOf (m .file))))))
     ∷ []
 conditions m (Scan client lift visits matches) =
     early (m .file) (m .table) client
     ++ (refuse 11 (ltb (length visits) (bucketsOf (m .file)))
-    ∷ refuse 7 (not (everyOn (bucketSoundIn (m .file)) (visitsOf (m .file) (imageOf (m .table) client))))
-    ∷ refuse 12 (ltb (length matches) (length (matchesOn (m .file) lift (visitsOf (m .file) (imageOf (m .table) client)))))
+    ∷ refuse 7
+    (not (every (bucketSoundIn (m .file)) (visitsOf (m .file) (imageOf (m .table) client))))
+    ∷ refuse 12
+    (ltb (length matches)
+    (length (matchesOn (m .file) lift (visitsOf (m .file) (imageOf (m .table) client)))))
     ∷ [])
-conditions m Check = refuse 5 (not (headerSound (m .file))) ∷ refuse 7 (ltb (lowestUnsound (m .file)) (mostOf (m .file))) ∷ []
+conditions m Check = refuse 5 (not (headerSound (m .file)))
+    ∷ refuse 7 (ltb (lowestUnsound (m .file)) (mostOf (m .file))) ∷ []
 conditions m (View bucket) = []
 conditions m (Parent bucket) = []
 
@@ -148,7 +161,9 @@ Holds file ride = (a : ℕ) × (a < bucketsOf file) × List·Memᴰ ride (ridesO
 -- An insert is accepted if its reply is 0.
 pub Accepts : Memory → Ride → Call → Type 0
 Accepts m ride (Join client) = ⊥
-Accepts m ride (Insert client key payload answer) = (replied m (Insert client key payload answer) ≡ 0) × (ride ≡ record { key = key; payload = payload })
+Accepts m ride (Insert client key payload answer) =
+    (replied m (Insert client key payload answer) ≡ 0)
+    × (ride ≡ record { key = key; payload = payload })
 Accepts m ride (Search client key answer) = ⊥
 Accepts m ride Split = ⊥
 Accepts m ride (Scan client lift visits matches) = ⊥
@@ -169,10 +184,14 @@ Kept m calls ride = Holds (m .file) ride ⊎ Accepted m ride calls
 pub payloadIn : List ℕ → List ℕ
 payloadIn block = part 10 14 block
 
--- A search of a key tells what is held of it: it replies 0 with a payload exactly if that is held, and 1 exactly if none is.
+-- A search of a key tells what is held of it: it replies 0 with a payload exactly if that is held,
+-- and 1 exactly if none is.
 pub record Finds (key : ℕ) (outcome : Outcome) (Has : Ride → Type 0) : Type 0 where
-  pub present : (payload : List ℕ) → ((outcome .answer ≡ 0) × (payloadIn (outcome .block) ≡ payload)) ↔ Has (record { key = key; payload = payload })
-  pub absent : (outcome .answer ≡ 1) ↔ ((payload : List ℕ) → Has (record { key = key; payload = payload }) → ⊥)
+  pub present : (payload : List ℕ)
+      → ((outcome .answer ≡ 0) × (payloadIn (outcome .block) ≡ payload))
+      ↔ Has (record { key = key; payload = payload })
+  pub absent : (outcome .answer ≡ 1)
+      ↔ ((payload : List ℕ) → Has (record { key = key; payload = payload }) → ⊥)
 
 -- ---- demand 3
 
@@ -181,7 +200,8 @@ pub record Ready (m : Memory) : Type 0 where
   pub bytes : Bytes (m .file)
   pub file-sound : fileSound (m .file) ≡ true
   pub table-sound : tableSound (m .table) ≡ true
-  pub none-ahead : (client : ℕ) → exists (m .table) client ≡ true → NotAhead firstBuckets (stateOf (m .file)) (imageOf (m .table) client)
+  pub none-ahead : (client : ℕ) → exists (m .table) client ≡ true
+      → NotAhead firstBuckets (stateOf (m .file)) (imageOf (m .table) client)
 
 -- A key that a client sends: insert and search send theirs unless 14 or 2 to 6 refuses them.
 pub data Sent : Type 0 where
@@ -189,11 +209,13 @@ pub data Sent : Type 0 where
   Key : ℕ → ℕ → Sent
 
 pub sentIf : Bool → Memory → ℕ → ℕ → Sent
-sentIf fits m client key = cond (fits && eqb (reply (early (m .file) (m .table) client) 0) 0) (Key client key) Nothing
+sentIf fits m client key = cond (fits && eqb (reply (early (m .file) (m .table) client) 0) 0)
+    (Key client key) Nothing
 
 pub sent : Memory → Call → Sent
 sent m (Join client) = Nothing
-sent m (Insert client key payload answer) = sentIf (eqb (length answer) 24 && eqb (length payload) 14) m client key
+sent m (Insert client key payload answer) = sentIf
+    (eqb (length answer) 24 && eqb (length payload) 14) m client key
 sent m (Search client key answer) = sentIf (eqb (length answer) 24) m client key
 sent m Split = Nothing
 sent m (Scan client lift visits matches) = Nothing
@@ -203,18 +225,24 @@ sent m (Parent bucket) = Nothing
 
 -- Its defined route; with 7 it ends at the unsound bucket.
 pub routeOf : Memory → ℕ → ℕ → List ℕ
-routeOf m client key = cut (bucketSoundIn (m .file)) (wayOf (m .file) (imageOf (m .table) client) key)
+routeOf m client key = cut (bucketSoundIn (m .file))
+    (wayOf (m .file) (imageOf (m .table) client) key)
 
--- It reaches its own bucket: at most two forwards, each to a higher-numbered bucket, and the last bucket is the key's address.
+-- It reaches its own bucket: at most two forwards, each to a higher-numbered bucket, and the last
+-- bucket is the key's address.
 pub Reached : Memory → Sent → Type 0
 Reached m Nothing = Unit {0}
 Reached m (Key client key) =
-    (h : ℕ) × (h ≤ 2) × Delivered firstBuckets (stateOf (m .file)) key (address firstBuckets (imageOf (m .table) client) key) h (routeOf m client key)
+    (h : ℕ) × (h ≤ 2) × Delivered firstBuckets (stateOf (m .file)) key
+    (address firstBuckets (imageOf (m .table) client) key) h (routeOf m client key)
 
--- Of a client: 1 for a key sent whose first bucket is not the key's own, and the forwards of its route.
+-- Of a client: 1 for a key sent whose first bucket is not the key's own, and the forwards of its
+-- route.
 pub wrongFirst : ℕ → Memory → Sent → ℕ
 wrongFirst client m Nothing = 0
-wrongFirst client m (Key other key) = cond (eqb other client && not (eqb (address firstBuckets (imageOf (m .table) client) key) (ownOf (m .file) key))) 1 0
+wrongFirst client m (Key other key) = cond
+    (eqb other client && not
+    (eqb (address firstBuckets (imageOf (m .table) client) key) (ownOf (m .file) key))) 1 0
 
 pub forwardsOf : ℕ → Memory → Sent → ℕ
 forwardsOf client m Nothing = 0

@@ -1,13 +1,13 @@
 // A bucket's rides divided between two regions, and a region made that of an empty bucket.
 ghost use mathlib.Core.Path.{_≡_};
-ghost use mathlib.Core.Bool.{not};
 ghost use mathlib.Core.List.{[]};
-ghost use Prim.Native.Nat.{ℕ, _+_, _*_, _-_, _≤_, _<_};
+ghost use Prim.Native.Nat.{_+_, _*_, _-_, _≤_, _<_};
 ghost use lib.ListN.{length, replicate};
+ghost use Rattle.address.specs.Limits.{mostSlots};
 ghost use Rattle.address.specs.Room.{Room};
 ghost use Rattle.address.specs.Rules.{keeps};
 ghost use Rattle.layout.specs.Bytes.{edit, part};
-ghost use Rattle.bucket.specs.Region.{slotAt, countOf, ridesOf, headBytes, encode, kept};
+ghost use Rattle.bucket.specs.Region.{slotAt, countOf, headBytes, encode, halved};
 ghost use Rattle.bucket.specs.Region.Divide.{Halves, Parted};
 
 // Writes a bucket's head.
@@ -15,24 +15,24 @@ fn put_head(bytes: &mut [u8], at: usize, level: u32, count: usize)
     requires { ⌜ (at + 8 ≤ length (now bytes)) × (level < 256) ⌝ }
     ensures { λ _. ⌜ now (bytes .exit) ≡ edit at (headBytes level count) (now (bytes .entry)) ⌝ }
 {
-    let high = count / 256;
-    let source = [
-        b'L',
-        b'B',
+    layout::put(bytes, at, b"LB");
+    let figures = [
         level as u8,
         0,
         (count % 256) as u8,
-        (high % 256) as u8,
+        (count / 256 % 256) as u8,
         0,
         0,
     ];
-    layout::put(bytes, at, &source);
+    layout::put(bytes, at + 2, &figures);
 }
 
 // Writes a bucket's head and makes its unused slots zero.
 fn close(bytes: &mut [u8], at: usize, slots: u32, level: u32, count: usize)
-    requires { ⌜ (at + slotAt slots ≤ length (now bytes)) × (count ≤ slots) × (slots ≤ 64) × (level < 256) ⌝ }
-    ensures { λ _. ⌜ now (bytes .exit) ≡ edit (at + slotAt count) (replicate (24 * (slots - count)) 0) (edit at (headBytes level count) (now (bytes .entry))) ⌝ }
+    requires { ⌜ (at + slotAt slots ≤ length (now bytes)) × (count ≤ slots) × (slots ≤ mostSlots) × (level < 256) ⌝ }
+    ensures { λ _. ⌜ now (bytes .exit)
+        ≡ edit (at + slotAt count) (replicate (24 * (slots - count)) 0)
+        (edit at (headBytes level count) (now (bytes .entry))) ⌝ }
 {
     put_head(bytes, at, level, count);
     let from = at + (8 + 24 * count);
@@ -42,7 +42,7 @@ fn close(bytes: &mut [u8], at: usize, slots: u32, level: u32, count: usize)
 
 // Makes a region that of an empty bucket of a level.
 pub fn renew(region: &mut [u8], slots: u32, level: u32)
-    requires { ⌜ (length (now region) ≡ slotAt slots) × (slots ≤ 64) × (level < 256) ⌝ }
+    requires { ⌜ (length (now region) ≡ slotAt slots) × (slots ≤ mostSlots) × (level < 256) ⌝ }
     ensures { λ _. ⌜ now (region .exit) ≡ encode slots level [] ⌝ }
 {
     close(region, 0, slots, level, 0);
@@ -73,8 +73,9 @@ fn part_rides(
     home: u32,
     level: u32,
 ) -> usize
-    requires { ⌜ Room first level × Halves (now bytes) slots old new count × (slots ≤ 64) ⌝ }
-    ensures { λ r. ⌜ Parted (keeps first home level) (now (bytes .entry)) slots old new count count r (now (bytes .exit)) ⌝ }
+    requires { ⌜ Room first level × Halves (now bytes) slots old new count × (slots ≤ mostSlots) ⌝ }
+    ensures { λ r. ⌜ Parted (keeps first home level) (now (bytes .entry)) slots old new count count r
+        (now (bytes .exit)) ⌝ }
 {
     let mut stay = 0;
     let mut k = 0;
@@ -100,8 +101,9 @@ pub fn divide(
     home: u32,
     level: u32,
 )
-    requires { ⌜ Room first level × Halves (now bytes) slots old new (countOf (part old (slotAt slots) (now bytes))) × (slots ≤ 64) ⌝ }
-    ensures { λ _. ⌜ now (bytes .exit) ≡ edit new (encode slots level (kept (λ (key : ℕ). not (keeps first home level key)) (ridesOf (part old (slotAt slots) (now (bytes .entry)))))) (edit old (encode slots level (kept (keeps first home level) (ridesOf (part old (slotAt slots) (now (bytes .entry)))))) (now (bytes .entry))) ⌝ }
+    requires { ⌜ Room first level × Halves (now bytes) slots old new (countOf (part old (slotAt slots) (now bytes)))
+        × (slots ≤ mostSlots) ⌝ }
+    ensures { λ _. ⌜ now (bytes .exit) ≡ halved (keeps first home level) slots level old new (now (bytes .entry)) ⌝ }
 {
     let count = layout::read2(bytes, old + 4) as usize;
     let stay = part_rides(bytes, old, new, slots, count, first, home, level);

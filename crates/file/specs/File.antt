@@ -1,10 +1,11 @@
--- A file as document 01 lays it out: a header of 16 bytes, then M regions of 8 + 24·S bytes. When it is sound, and what create, check, view and split give.
+-- A file as document 01 lays it out: a header of 16 bytes, then M regions of 8 + 24·S bytes. When it is sound, and what
+-- create, check, view and split give.
 pub mod Judge
 pub mod Region
 pub mod Create
 pub mod Write
 pub mod Split
-pub mod Kept
+pub mod Keeping
 use Prim.Native.Nat.{ℕ, suc, _+_, _*_, _-_}
 use mathlib.Core.Bool.{Bool, true, false, cond, not, _&&_}
 use mathlib.Core.List.{List, [], _∷_, _++_}
@@ -12,7 +13,7 @@ use lib.Dec.{leb, ltb, eqb}
 use lib.ListN.{length, replicate}
 use Rattle.address.specs.Limits.{firstBuckets, noBucket, mostBuckets, mostSlots}
 use Rattle.address.specs.declared.Image.{Image}
-use Rattle.address.specs.Rules.{«at», span, buckets, level, keeps, newborn, grown}
+use Rattle.address.specs.Rules.{«at», span, buckets, level, keeps, splitting, newborn, grown}
 use Rattle.layout.specs.Bytes.{byteAt, leAt, leBytes, marked, allBelow, allZero, firstFrom, edit, part}
 use Rattle.file.specs.declared.Header.{Header}
 use Rattle.bucket.specs.Region.{Ride, slotAt, countOf, ridesOf, bucketSound, encode, kept}
@@ -21,7 +22,8 @@ use Rattle.bucket.specs.Region.{Ride, slotAt, countOf, ridesOf, bucketSound, en
 abbrev pub fileMark : List ℕ
 fileMark = 76 ∷ 70 ∷ []
 
--- File header, 16 bytes: byte 2 level i; byte 3 capacity b; bytes 4-5 split pointer n; bytes 6-7 most buckets M; byte 8 slots per bucket S.
+-- File header, 16 bytes: byte 2 level i; byte 3 capacity b; bytes 4-5 split pointer n; bytes 6-7 most buckets M; byte 8
+-- slots per bucket S.
 abbrev pub capacityOf : List ℕ → ℕ
 capacityOf file = byteAt file 3
 
@@ -39,7 +41,8 @@ abbrev pub fileLength : ℕ → ℕ → ℕ
 fileLength S M = 16 + M * (8 + 24 * S)
 
 pub figuresFit : ℕ → ℕ → ℕ → ℕ → Bool
-figuresFit long b S M = (leb 1 S && leb S mostSlots && leb 1 b && leb b S && leb 1 M && leb M mostBuckets) && eqb long (fileLength S M)
+figuresFit long b S M = (leb 1 S && leb S mostSlots && leb 1 b && leb b S && leb 1 M && leb M mostBuckets)
+    && eqb long (fileLength S M)
 
 -- The file has 2^i + n buckets.
 pub bucketsOf : List ℕ → ℕ
@@ -60,7 +63,15 @@ headerSound file =
 -- The header that the code reads and judges once in a call: the figures of a sound header, else none.
 pub headerOf : List ℕ → Header
 headerOf file =
-    cond (headerSound file) (record { sound = true; state = stateOf file; capacity = capacityOf file; slots = slotsOf file; most = mostOf file })
+    cond (headerSound file)
+    (record {
+      sound = true;
+      state = stateOf file;
+      capacity = capacityOf file;
+      slots = slotsOf file;
+      most = mostOf
+          file;
+    })
     (record { sound = false; state = «at» 0 0; capacity = 0; slots = 0; most = 0 })
 
 -- Then M regions of 8 + 24·S bytes.
@@ -77,7 +88,8 @@ withRegion file a region = edit (startOf (slotsOf file) a) region file
 pub withState : List ℕ → Image → List ℕ
 withState file state = edit 4 (leBytes 2 (state .pointer)) (edit 2 (state .level ∷ []) file)
 
--- A bucket of the file; a region past the last bucket is sound if all its bytes are zero; a file is sound if header and all M regions are.
+-- A bucket of the file; a region past the last bucket is sound if all its bytes are zero; a file is sound if header and
+-- all M regions are.
 pub bucketSoundIn : List ℕ → ℕ → Bool
 bucketSoundIn file a = bucketSound firstBuckets (stateOf file) (slotsOf file) a (regionOf file a)
 
@@ -89,7 +101,8 @@ fileSound file = headerSound file && allBelow (regionSound file) (mostOf file)
 
 -- The file with one ride more in a bucket, behind those that it holds.
 pub withRide : List ℕ → ℕ → Ride → List ℕ
-withRide file a ride = withRegion file a (encode (slotsOf file) (level firstBuckets (stateOf file) a) (ridesOf (regionOf file a) ++ (ride ∷ [])))
+withRide file a ride = withRegion file a
+    (encode (slotsOf file) (level firstBuckets (stateOf file) a) (ridesOf (regionOf file a) ++ (ride ∷ [])))
 
 -- Check: 5, 7 (lowest region; with other replies the number is 65,535).
 pub record Checked : Type 0 where
@@ -102,16 +115,19 @@ lowestUnsound file = firstFrom (λ a. not (regionSound file a)) (mostOf file) 0
 pub check : List ℕ → Checked
 check file =
     cond (not (headerSound file)) (record { answer = 5; bucket = noBucket })
-    (cond (ltb (lowestUnsound file) (mostOf file)) (record { answer = 7; bucket = lowestUnsound file }) (record { answer = 0; bucket = noBucket }))
+    (cond (ltb (lowestUnsound file) (mostOf file)) (record { answer = 7; bucket = lowestUnsound file })
+    (record { answer = 0; bucket = noBucket }))
 
 -- The bucket view: the used slots; empty if the header is unsound, the number is too high or the bucket is unsound.
 pub view : List ℕ → ℕ → List ℕ
 view file a =
-    cond (headerSound file && ltb a (bucketsOf file) && bucketSoundIn file a) (part (startOf (slotsOf file) a + 8) (24 * countOf (regionOf file a)) file) []
+    cond (headerSound file && ltb a (bucketsOf file) && bucketSoundIn file a)
+    (part (startOf (slotsOf file) a + 8) (24 * countOf (regionOf file a)) file) []
 
 -- Create takes b, S and M and writes the sound file in state (0, 0) without records.
 pub headerBytes : Image → ℕ → ℕ → ℕ → List ℕ
-headerBytes state b S M = fileMark ++ (state .level ∷ b ∷ []) ++ leBytes 2 (state .pointer) ++ leBytes 2 M ++ (S ∷ []) ++ replicate 7 0
+headerBytes state b S M = fileMark ++ (state .level ∷ b ∷ []) ++ leBytes 2 (state .pointer) ++ leBytes 2 M ++ (S ∷ [])
+    ++ replicate 7 0
 
 pub created : ℕ → ℕ → ℕ → List ℕ
 created b S M = headerBytes («at» 0 0) b S M ++ (encode S 0 [] ++ replicate ((M - 1) * (8 + 24 * S)) 0)
@@ -122,31 +138,34 @@ pub record Created : Type 0 where
   pub file : List ℕ
 
 pub create : List ℕ → ℕ → ℕ → ℕ → Created
-create file b S M = cond (figuresFit (length file) b S M) (record { answer = 0; file = created b S M }) (record { answer = 13; file = file })
+create file b S M = cond (figuresFit (length file) b S M) (record { answer = 0; file = created b S M })
+    (record { answer = 13; file = file })
 
--- Split: records of bucket n whose h_{i+1} is not n go to new bucket n + 2^i, both groups keeping their order and packed; freed slots are zeroed;
--- both levels become i+1; n grows by 1, and at 2^i it becomes 0 and i grows by 1.
+-- Split: records of bucket n whose h_{i+1} is not n go to new bucket n + 2^i, both groups keeping their order and
+-- packed; freed slots are zeroed; both levels become i+1; n grows by 1, and at 2^i it becomes 0 and i grows by 1.
 pub staying : Image → ℕ → Bool
-staying state key = keeps firstBuckets (state .pointer) (suc (state .level)) key
+staying state key = keeps firstBuckets (splitting state) (suc (state .level)) key
 
 pub divided : List ℕ → List ℕ
 divided file =
     let state = stateOf file in
-    let rides = ridesOf (regionOf file (state .pointer)) in
+    let rides = ridesOf (regionOf file (splitting state)) in
     let old = encode (slotsOf file) (suc (state .level)) (kept (staying state) rides) in
     let new = encode (slotsOf file) (suc (state .level)) (kept (λ key. not (staying state key)) rides) in
-    withState (withRegion (withRegion file (state .pointer) old) (newborn firstBuckets state) new) (grown firstBuckets state)
+    withState (withRegion (withRegion file (splitting state) old) (newborn firstBuckets state) new)
+    (grown firstBuckets state)
 
--- Split: 5, 10, 7 (bucket n, then the new region). Its plain answer gives the old bucket and the new, else 65,535 twice, but with 7 the unsound one and 65,535.
-pub record Splitted : Type 0 where
+-- Split: 5, 10, 7 (bucket n, then the new region). Its plain answer gives the old bucket and the new, else 65,535
+-- twice, but with 7 the unsound one and 65,535.
+pub record SplitOutcome : Type 0 where
   pub answer : ℕ
   pub old : ℕ
   pub new : ℕ
   pub file : List ℕ
 
-pub split : List ℕ → Splitted
+pub split : List ℕ → SplitOutcome
 split file =
-    let old = stateOf file .pointer in
+    let old = splitting (stateOf file) in
     let new = newborn firstBuckets (stateOf file) in
     cond (not (headerSound file)) (record { answer = 5; old = noBucket; new = noBucket; file = file })
     (cond (leb (mostOf file) (bucketsOf file)) (record { answer = 10; old = noBucket; new = noBucket; file = file })

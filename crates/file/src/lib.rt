@@ -5,9 +5,11 @@ ghost use mathlib.Core.Path.{_≡_};
 ghost use mathlib.Core.Bool.{true, false};
 ghost use Prim.Native.Nat.{_+_, _≤_, _<_};
 ghost use lib.ListN.{length};
+ghost use Rattle.address.specs.Limits.{mostBuckets, mostSlots};
 ghost use Rattle.bucket.specs.Region.{Ride, countOf, keyAt, slotOf};
 ghost use Rattle.file.specs.File.Judge.{Known};
-ghost use Rattle.file.specs.File.{withRide, figuresFit, stateFits, headerOf, bucketsOf, startOf, regionOf, bucketSoundIn};
+ghost use Rattle.file.specs.File.{fileLength, withRide, figuresFit, stateFits, headerOf, bucketsOf, startOf, regionOf};
+ghost use Rattle.file.specs.File.{bucketSoundIn};
 
 // A file's header, read and judged; of an unsound one nothing is known.
 pub struct Header {
@@ -20,7 +22,8 @@ pub struct Header {
 
 // The header of a file that has none.
 pub fn no_header() -> Header
-    ensures { λ r. ⌜ r ≡ record { sound = false; state = record { level = 0; pointer = 0 }; capacity = 0; slots = 0; most = 0 } ⌝ }
+    ensures { λ r. ⌜ r
+        ≡ record { sound = false; state = record { level = 0; pointer = 0 }; capacity = 0; slots = 0; most = 0 } ⌝ }
 {
     let state = Image {
         level: 0,
@@ -40,11 +43,11 @@ pub fn figures_fit(long: u64, capacity: u64, slots: u64, most: u64) -> bool
     ensures { λ r. ⌜ r ≡ figuresFit long capacity slots most ⌝ }
 {
     let ranged = (1 <= slots)
-        & (slots <= 64)
+        & (slots <= address::MOST_SLOTS as u64)
         & (1 <= capacity)
         & (capacity <= slots)
         & (1 <= most)
-        & (most <= 4096);
+        & (most <= address::MOST_BUCKETS as u64);
     if !ranged {
         return false;
     }
@@ -53,7 +56,7 @@ pub fn figures_fit(long: u64, capacity: u64, slots: u64, most: u64) -> bool
 
 // Whether a state is one of a file of at most `most` buckets.
 fn state_fits(state: Image, most: u64) -> bool
-    requires { ⌜ (state .pointer < 65536) × (most ≤ 4096) ⌝ }
+    requires { ⌜ (state .pointer < 65536) × (most ≤ mostBuckets) ⌝ }
     ensures { λ r. ⌜ r ≡ stateFits state most ⌝ }
 {
     if address::MOST_LEVEL < state.level {
@@ -100,8 +103,8 @@ pub fn header_of(file: &[u8]) -> Header
 
 // Where a region starts.
 pub fn start(slots: u32, bucket: u32) -> usize
-    requires { ⌜ (slots ≤ 64) × (bucket ≤ 4096) ⌝ }
-    ensures { λ r. ⌜ (r ≡ startOf slots bucket) × (r ≤ 6324240) ⌝ }
+    requires { ⌜ (slots ≤ mostSlots) × (bucket ≤ mostBuckets) ⌝ }
+    ensures { λ r. ⌜ (r ≡ startOf slots bucket) × (r ≤ fileLength mostSlots mostBuckets) ⌝ }
 {
     16 + bucket as usize * (8 + 24 * slots as usize)
 }
@@ -109,7 +112,8 @@ pub fn start(slots: u32, bucket: u32) -> usize
 // Judges a bucket of a file, and finds a key in it.
 pub fn judge_bucket(file: &[u8], header: Header, bucket: u32, key: u64) -> Judged
     requires { ⌜ Known (now file) header × (bucket < bucketsOf (now file)) ⌝ }
-    ensures { λ r. ⌜ (r .sound ≡ bucketSoundIn (now (file .entry)) bucket) × (r .sound ≡ true → r .place ≡ slotOf (regionOf (now (file .entry)) bucket) key) ⌝ }
+    ensures { λ r. ⌜ (r .sound ≡ bucketSoundIn (now (file .entry)) bucket)
+        × (r .sound ≡ true → r .place ≡ slotOf (regionOf (now (file .entry)) bucket) key) ⌝ }
 {
     let slots = header.slots;
     let at = start(slots, bucket);
@@ -136,7 +140,7 @@ pub fn bucket_sound(file: &[u8], header: Header, bucket: u32) -> bool
 // How many rides a sound bucket holds.
 pub fn held_in(file: &[u8], header: Header, bucket: u32) -> usize
     requires { ⌜ Known (now file) header × (bucket < bucketsOf (now file)) × (bucketSoundIn (now file) bucket ≡ true) ⌝ }
-    ensures { λ r. ⌜ (r ≡ countOf (regionOf (now (file .entry)) bucket)) × (r ≤ 64) ⌝ }
+    ensures { λ r. ⌜ (r ≡ countOf (regionOf (now (file .entry)) bucket)) × (r ≤ mostSlots) ⌝ }
 {
     let at = start(header.slots, bucket);
     layout::read2(file, at + 4) as usize
@@ -144,7 +148,8 @@ pub fn held_in(file: &[u8], header: Header, bucket: u32) -> usize
 
 // The key in a slot of a sound bucket.
 pub fn key_in(file: &[u8], header: Header, bucket: u32, slot: usize) -> u64
-    requires { ⌜ Known (now file) header × (bucket < bucketsOf (now file)) × (bucketSoundIn (now file) bucket ≡ true) × (slot < countOf (regionOf (now file) bucket)) ⌝ }
+    requires { ⌜ Known (now file) header × (bucket < bucketsOf (now file)) × (bucketSoundIn (now file) bucket ≡ true)
+        × (slot < countOf (regionOf (now file) bucket)) ⌝ }
     ensures { λ r. ⌜ r ≡ keyAt (regionOf (now (file .entry)) bucket) slot ⌝ }
 {
     let slots = header.slots;
@@ -162,8 +167,11 @@ pub fn place_ride(
     key: u64,
     payload: &[u8],
 ) -> usize
-    requires { ⌜ Known (now file) header × (bucket < bucketsOf (now file)) × (bucketSoundIn (now file) bucket ≡ true) × (count ≡ countOf (regionOf (now file) bucket)) × (count < header .slots) × (length (now payload) ≡ 14) ⌝ }
-    ensures { λ r. ⌜ (r ≡ count + 1) × (now (file .exit) ≡ withRide (now (file .entry)) bucket (record { key = key; payload = now (payload .entry) })) ⌝ }
+    requires { ⌜ Known (now file) header × (bucket < bucketsOf (now file)) × (bucketSoundIn (now file) bucket ≡ true)
+        × (count ≡ countOf (regionOf (now file) bucket)) × (count < header .slots) × (length (now payload) ≡ 14) ⌝ }
+    ensures { λ r. ⌜ (r ≡ count + 1)
+        × (now (file .exit) ≡ withRide (now (file .entry)) bucket
+        (record { key = key; payload = now (payload .entry) })) ⌝ }
 {
     let slots = header.slots;
     let at = start(slots, bucket);

@@ -5,8 +5,9 @@ ghost use mathlib.Core.Path.{_≡_};
 ghost use mathlib.Core.Bool.{true};
 ghost use Prim.Native.Nat.{_≤_, _<_};
 ghost use lib.ListN.{length};
+ghost use Rattle.address.specs.Limits.{firstBuckets, noBucket};
 ghost use Rattle.address.specs.Rules.{newborn};
-ghost use Rattle.file.specs.File.{Splitted, divided, split, bucketsOf, mostOf, withState, bucketSoundIn};
+ghost use Rattle.file.specs.File.{SplitOutcome, divided, split, bucketsOf, mostOf, withState, bucketSoundIn};
 ghost use Rattle.file.specs.File.Judge.{Known};
 
 // A split's reply, the old bucket and the new; with 7 the unsound one.
@@ -29,7 +30,8 @@ fn put_state(file: &mut [u8], state: Image)
 
 // Divides bucket n of a file with the new bucket, and lets the state grow.
 fn divide(file: &mut [u8], header: Header, new: u32)
-    requires { ⌜ Known (now file) header × (bucketsOf (now file) < mostOf (now file)) × (new ≡ newborn 1 (header .state)) × (bucketSoundIn (now file) (header .state .pointer) ≡ true) ⌝ }
+    requires { ⌜ Known (now file) header × (bucketsOf (now file) < mostOf (now file)) × (new ≡ newborn firstBuckets (header .state))
+        × (bucketSoundIn (now file) (header .state .pointer) ≡ true) ⌝ }
     ensures { λ _. ⌜ now (file .exit) ≡ divided (now (file .entry)) ⌝ }
 {
     let slots = header.slots;
@@ -51,7 +53,8 @@ fn divide(file: &mut [u8], header: Header, new: u32)
 
 // Splits bucket n: 5, 10, 7, or both buckets' numbers.
 pub fn split(file: &mut [u8]) -> SplitAnswer
-    ensures { λ r. ⌜ record { answer = r .reply; old = r .«old_bucket»; new = r .«new_bucket»; file = now (file .exit) } ≡ split (now (file .entry)) ⌝ }
+    ensures { λ r. ⌜ record { answer = r .reply; old = r .«old_bucket»; new = r .«new_bucket»; file = now (file .exit) }
+        ≡ split (now (file .entry)) ⌝ }
 {
     let header = file::header_of(file);
     if !header.sound {
@@ -82,7 +85,7 @@ pub fn split(file: &mut [u8]) -> SplitAnswer
 
 // A refused split's answer.
 fn refused_split(reply: u32, bucket: u32) -> SplitAnswer
-    ensures { λ r. ⌜ (r .reply ≡ reply) × (r .«old_bucket» ≡ bucket) × (r .«new_bucket» ≡ 65535) ⌝ }
+    ensures { λ r. ⌜ (r .reply ≡ reply) × (r .«old_bucket» ≡ bucket) × (r .«new_bucket» ≡ noBucket) ⌝ }
 {
     SplitAnswer {
         reply,

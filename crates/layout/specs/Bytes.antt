@@ -1,4 +1,5 @@
--- Bytes in lent memory: numbers of several bytes, marks, zeros, and what a write leaves. A list of bytes is a list of numbers below 256.
+-- Bytes in lent memory: numbers of several bytes, marks, zeros, and what a write leaves. A list of bytes is a list of
+-- numbers below 256.
 pub mod Tests
 pub mod Apart
 pub mod Edit

@@ -7,6 +7,7 @@ use native.Mathlib.Omega.{arith}
 use borrow.Author.Tests.{ltb-true, ltb-false, eqb-true, eqb-false, eq-eqb, ne-eqb}
 use lib.Dec.{eqb, ltb}
 use lib.ListN.{length, take, drop}
+use Rattle.address.specs.Limits.{mostSlots, mostBuckets}
 use Rattle.layout.specs.Bytes.{part, leAt}
 use Rattle.layout.specs.Bytes.Edit.{part-is, length-part}
 use Rattle.file.specs.File.{view, startOf, slotsOf, bucketsOf, headerSound, headerOf, bucketSoundIn}
@@ -32,7 +33,8 @@ module _ (file : List ℕ) (a : ℕ) (some : 0 < length (view file a)) where
   pub viewed : Viewed file a
   viewed = by-header (headerSound file) refl
     where
-      by-bucket : Known file (headerOf file) → a < bucketsOf file → (t : Bool) → bucketSoundIn file a ≡ t → Viewed file a
+      by-bucket : Known file (headerOf file) → a < bucketsOf file → (t : Bool) → bucketSoundIn file a ≡ t
+          → Viewed file a
       by-bucket seen exists true e = record { seen = seen; exists = exists; sound = e }
       by-bucket seen exists false e = absurd (none (view-unsound file a (seen .sound) exists e))
 
@@ -41,26 +43,38 @@ module _ (file : List ℕ) (a : ℕ) (some : 0 < length (view file a)) where
       by-number seen false e = absurd (none (view-high file a (seen .sound) (ltb-false a (bucketsOf file) e)))
 
       by-header : (t : Bool) → headerSound file ≡ t → Viewed file a
-      by-header true e = by-number (known file (headerOf file) refl (header-flag file ∙ e)) (ltb a (bucketsOf file)) refl
+      by-header true e = by-number (known file (headerOf file) refl (header-flag file ∙ e)) (ltb a (bucketsOf file))
+          refl
       by-header false e = absurd (none (view-header file a e))
 
 -- the start and the length, by whether the view has a byte
-pub view-empty : (file : List ℕ) (a n : ℕ) → n ≡ length (view file a) → n ≡ 0 → (0 ≡ viewStart file a) × (0 ≡ viewLength file a)
+pub view-empty : (file : List ℕ) (a n : ℕ) → n ≡ length (view file a) → n ≡ 0
+    → (0 ≡ viewStart file a) × (0 ≡ viewLength file a)
 unfolding viewStart viewLength
-view-empty file a n e z = (ap (λ (t : Bool). cond t 0 (startOf (slotsOf file) a + 8)) (sym (eq-eqb (length (view file a)) 0 (sym e ∙ z))), sym z ∙ e)
+view-empty file a n e z = (
+  ap (λ (t : Bool). cond t 0 (startOf (slotsOf file) a + 8)) (sym (eq-eqb (length (view file a)) 0 (sym e ∙ z))),
+  sym
+      z ∙ e,
+)
 
 -- the bounds that a view with a byte gives
-pub viewed-few : (file : List ℕ) (a n : ℕ) → n ≡ length (view file a) → (n ≡ 0 → ⊥) → (headerOf file .slots ≤ 64) × (a ≤ 4096)
+pub viewed-few : (file : List ℕ) (a n : ℕ) → n ≡ length (view file a) → (n ≡ 0 → ⊥)
+    → (headerOf file .slots ≤ mostSlots) × (a ≤ mostBuckets)
 viewed-few file a n e some =
-    let v = viewed file a (omega (arith, e, some)) in
-    (omega (arith, v .seen .slots, v .seen .ranges .figured .few-slots), omega (arith, v .exists, v .seen .ranges .few, v .seen .ranges .figured .few-buckets))
+    let v = viewed file a (omega (arith, e, some)) in (
+      omega (arith, v .seen .slots, v .seen .ranges .figured .few-slots),
+      omega
+          (arith, v .exists, v .seen .ranges .few, v .seen .ranges .figured .few-buckets),
+    )
 
-pub view-start : (file : List ℕ) (a n : ℕ) → n ≡ length (view file a) → (n ≡ 0 → ⊥) → startOf (headerOf file .slots) a + 8 ≡ viewStart file a
+pub view-start : (file : List ℕ) (a n : ℕ) → n ≡ length (view file a) → (n ≡ 0 → ⊥)
+    → startOf (headerOf file .slots) a + 8 ≡ viewStart file a
 unfolding viewStart viewLength
 view-start file a n e some =
     let v = viewed file a (omega (arith, e, some)) in
     ap (λ (S : ℕ). startOf S a + 8) (v .seen .slots)
-    ∙ ap (λ (t : Bool). cond t 0 (startOf (slotsOf file) a + 8)) (sym (ne-eqb (length (view file a)) 0 (λ z. some (e ∙ z))))
+    ∙ ap (λ (t : Bool). cond t 0 (startOf (slotsOf file) a + 8))
+    (sym (ne-eqb (length (view file a)) 0 (λ z. some (e ∙ z))))
 
 pub view-length : (file : List ℕ) (a n : ℕ) → n ≡ length (view file a) → n ≡ viewLength file a
 unfolding viewLength
@@ -72,7 +86,8 @@ module _ (file : List ℕ) (a : ℕ) where
   empty-is [] e = refl
   empty-is (x ∷ xs) e = absurd (omega (arith, e))
 
-  used-is : (at n : ℕ) → at ≡ startOf (slotsOf file) a → at + 8 + 24 * n ≤ length file → take (at + 8 + 24 * n - (at + 8)) (drop (at + 8) file) ≡ view file a
+  used-is : (at n : ℕ) → at ≡ startOf (slotsOf file) a → at + 8 + 24 * n ≤ length file
+      → take (at + 8 + 24 * n - (at + 8)) (drop (at + 8) file) ≡ view file a
       → part (startOf (slotsOf file) a + 8) (length (view file a)) file ≡ view file a
   used-is at n place fits is = ap₂ (λ (s m : ℕ). part (s + 8) m file) (sym place) long ∙ cut
     where
@@ -89,10 +104,14 @@ module _ (file : List ℕ) (a : ℕ) where
   unfolding viewStart viewLength
   view-part = by-length (eqb (length (view file a)) 0) refl
     where
-      by-length : (t : Bool) → eqb (length (view file a)) 0 ≡ t → part (cond t 0 (startOf (slotsOf file) a + 8)) (length (view file a)) file ≡ view file a
-      by-length true e = ap (λ (n : ℕ). part 0 n file) (eqb-true _ 0 e) ∙ part-is 0 0 file ∙ empty-is (view file a) (eqb-true _ 0 e)
+      by-length : (t : Bool) → eqb (length (view file a)) 0 ≡ t
+          → part (cond t 0 (startOf (slotsOf file) a + 8)) (length (view file a)) file ≡ view file a
+      by-length true e = ap (λ (n : ℕ). part 0 n file) (eqb-true _ 0 e) ∙ part-is 0 0 file
+          ∙ empty-is (view file a) (eqb-true _ 0 e)
       by-length false e =
           let v = viewed file a (omega (arith, eqb-false (length (view file a)) 0 e)) in
           let at = startOf (headerOf file .slots) a in
           let n = leAt 2 file (at + 4) in
-          used-is at n (ap (λ (S : ℕ). startOf S a) (v .seen .slots)) (view-fits file (headerOf file) (v .seen) a at n refl refl (v .exists) (v .sound)) (view-used file (headerOf file) (v .seen) a at n refl refl (v .exists) (v .sound))
+          used-is at n (ap (λ (S : ℕ). startOf S a) (v .seen .slots))
+          (view-fits file (headerOf file) (v .seen) a at n refl refl (v .exists) (v .sound))
+          (view-used file (headerOf file) (v .seen) a at n refl refl (v .exists) (v .sound))

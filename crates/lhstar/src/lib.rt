@@ -3,12 +3,13 @@ use growth::SplitAnswer;
 use scan::ScanAnswer;
 use upkeep::CheckAnswer;
 ghost use mathlib.Core.Path.{_≡_};
+ghost use Rattle.address.specs.Limits.{firstBuckets};
 ghost use Rattle.address.specs.Rules.{parent};
 ghost use Rattle.client.specs.Table.{Joined, join};
-ghost use Rattle.file.specs.File.{Checked, Created, Splitted, check, create, split};
+ghost use Rattle.file.specs.File.{Checked, Created, SplitOutcome, check, create, split};
 ghost use Rattle.answer.specs.Answer.{forwardsIn};
 ghost use Rattle.ride.specs.Call.{Outcome, search, insert};
-ghost use Rattle.scan.specs.Scan.{Scanned, scan};
+ghost use Rattle.scan.specs.Scan.{leaving, scan};
 ghost use Rattle.lhstar.specs.View.{viewStart, viewLength};
 
 // Where a part of the file starts, and its length; 0 and 0 where it is empty.
@@ -44,7 +45,9 @@ pub extern "C" fn lhstar_insert(
     payload: &[u8],
     answer: &mut [u8],
 ) -> u8
-    ensures { λ r. ⌜ record { answer = r; block = now (answer .exit); table = now (table .exit); file = now (file .exit) } ≡ insert (now (file .entry)) (now (table .entry)) client key (now (payload .entry)) (now (answer .entry)) ⌝ }
+    ensures { λ r. ⌜
+        record { answer = r; block = now (answer .exit); table = now (table .exit); file = now (file .exit) }
+        ≡ insert (now (file .entry)) (now (table .entry)) client key (now (payload .entry)) (now (answer .entry)) ⌝ }
 {
     ride::insert(file, table, client, key, payload, answer)
 }
@@ -58,7 +61,9 @@ pub extern "C" fn lhstar_search(
     key: u64,
     answer: &mut [u8],
 ) -> u8
-    ensures { λ r. ⌜ record { answer = r; block = now (answer .exit); table = now (table .exit); file = now (file .entry) } ≡ search (now (file .entry)) (now (table .entry)) client key (now (answer .entry)) ⌝ }
+    ensures { λ r. ⌜
+        record { answer = r; block = now (answer .exit); table = now (table .exit); file = now (file .entry) }
+        ≡ search (now (file .entry)) (now (table .entry)) client key (now (answer .entry)) ⌝ }
 {
     ride::search(file, table, client, key, answer)
 }
@@ -74,7 +79,8 @@ pub extern "C" fn lhstar_forwards(answer: &[u8]) -> u32
 // Splits bucket n.
 #[no_mangle]
 pub extern "C" fn lhstar_split(file: &mut [u8]) -> SplitAnswer
-    ensures { λ r. ⌜ record { answer = r .reply; old = r .«old_bucket»; new = r .«new_bucket»; file = now (file .exit) } ≡ split (now (file .entry)) ⌝ }
+    ensures { λ r. ⌜ record { answer = r .reply; old = r .«old_bucket»; new = r .«new_bucket»; file = now (file .exit) }
+        ≡ split (now (file .entry)) ⌝ }
 {
     growth::split(file)
 }
@@ -89,7 +95,8 @@ pub extern "C" fn lhstar_scan(
     visits: &mut [u16],
     matches: &mut [u64],
 ) -> ScanAnswer
-    ensures { λ r. ⌜ record { answer = r .reply; bucket = r .bucket; visits = r .visits; matches = r .matches; visitList = now (visits .exit); matchList = now (matches .exit) } ≡ scan (now (file .entry)) (now (table .entry)) client lift (now (visits .entry)) (now (matches .entry)) ⌝ }
+    ensures { λ r. ⌜ leaving r (now (visits .exit)) (now (matches .exit))
+        ≡ scan (now (file .entry)) (now (table .entry)) client lift (now (visits .entry)) (now (matches .entry)) ⌝ }
 {
     scan::scan(file, table, client, lift, visits, matches)
 }
@@ -105,7 +112,8 @@ pub extern "C" fn lhstar_check(file: &[u8]) -> CheckAnswer
 // Where the used slots of a bucket stand in the file.
 #[no_mangle]
 pub extern "C" fn lhstar_view(file: &[u8], bucket: u64) -> ViewAnswer
-    ensures { λ r. ⌜ (r .start ≡ viewStart (now (file .entry)) bucket) × (r .length ≡ viewLength (now (file .entry)) bucket) ⌝ }
+    ensures { λ r. ⌜ (r .start ≡ viewStart (now (file .entry)) bucket)
+        × (r .length ≡ viewLength (now (file .entry)) bucket) ⌝ }
 {
     let length = upkeep::view(file, bucket).len();
     if length == 0 {
@@ -125,7 +133,7 @@ pub extern "C" fn lhstar_view(file: &[u8], bucket: u64) -> ViewAnswer
 // The bucket of whose split this one was born.
 #[no_mangle]
 pub extern "C" fn lhstar_parent(bucket: u16) -> u32
-    ensures { λ r. ⌜ r ≡ parent 1 bucket ⌝ }
+    ensures { λ r. ⌜ r ≡ parent firstBuckets bucket ⌝ }
 {
     address::parent(bucket)
 }

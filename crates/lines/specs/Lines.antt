@@ -24,7 +24,8 @@ decimalWithin (suc most) x =
 pub decimal : ℕ → List ℕ
 decimal x = decimalWithin (suc x) x
 
--- What a function that writes owes: the text stands from its place on, nothing else has changed, and the answer is the place after the text.
+-- What a function that writes owes: the text stands from its place on, nothing else has changed, and the answer is the
+-- place after the text.
 pub record Wrote (at : ℕ) (text entry exit : List ℕ) (next : ℕ) : Type 0 where
   pub place : next ≡ at + length text
   pub fits : next ≤ length entry

@@ -5,7 +5,8 @@ ghost use mathlib.Core.List.{[], _∷_};
 ghost use Prim.Native.Nat.{_+_, _≤_, _<_, min};
 ghost use lib.ListN.{length};
 ghost use Rattle.lines.specs.Bytes.{greater};
-ghost use Rattle.lines.specs.Lines.{decimal, Wrote, WroteLine, eachAfter, joined, unknownLine, heading, answerLine, rideLine, splitRoute, splitLine, scanned, scanLine, lineRoom};
+ghost use Rattle.lines.specs.Lines.{decimal, Wrote, WroteLine, eachAfter, joined, unknownLine, heading};
+ghost use Rattle.lines.specs.Lines.{answerLine, rideLine, splitRoute, splitLine, scanned, scanLine, lineRoom};
 
 // Writes one byte.
 fn put_byte(out: &mut [u8], at: usize, byte: u8) -> usize
@@ -78,7 +79,8 @@ fn put_heading(out: &mut [u8], at: usize, letter: u8, reply: u32) -> usize
 // Writes the line of a reply and a route.
 fn put_answer(out: &mut [u8], at: usize, letter: u8, reply: u32, route: &[u16]) -> usize
     requires { ⌜ at + lineRoom (length (now route)) ≤ length (now out) ⌝ }
-    ensures { λ r. ⌜ WroteLine (lineRoom (length (now (route .entry)))) at (answerLine letter reply (now (route .entry))) (now (out .entry)) (now (out .exit)) r ⌝ }
+    ensures { λ r. ⌜ WroteLine (lineRoom (length (now (route .entry)))) at
+        (answerLine letter reply (now (route .entry))) (now (out .entry)) (now (out .exit)) r ⌝ }
 {
     let mut next = put_heading(out, at, letter, reply);
     next = put_joined(out, next, b'>', route);
@@ -98,7 +100,8 @@ fn route_count(count: u8) -> usize
 // Writes the line of an insert or a search, by its answer block.
 pub fn put_ride(out: &mut [u8], at: usize, letter: u8, answer: &[u8]) -> usize
     requires { ⌜ (length (now answer) ≡ 24) × (at + lineRoom 3 ≤ length (now out)) ⌝ }
-    ensures { λ r. ⌜ WroteLine (lineRoom 3) at (rideLine letter (now (answer .entry))) (now (out .entry)) (now (out .exit)) r ⌝ }
+    ensures { λ r. ⌜ WroteLine (lineRoom 3) at (rideLine letter (now (answer .entry))) (now (out .entry))
+        (now (out .exit)) r ⌝ }
 {
     let route = [
         layout::read2(answer, 2) as u16,
@@ -154,7 +157,8 @@ fn put_scanned(out: &mut [u8], at: usize, reply: u32, visits: &[u16], matches: u
 // Writes the line of a scan.
 pub fn put_scan(out: &mut [u8], at: usize, reply: u32, visits: &[u16], matches: u32) -> usize
     requires { ⌜ at + lineRoom (length (now visits)) ≤ length (now out) ⌝ }
-    ensures { λ r. ⌜ WroteLine (lineRoom (length (now (visits .entry)))) at (scanLine reply (now (visits .entry)) matches) (now (out .entry)) (now (out .exit)) r ⌝ }
+    ensures { λ r. ⌜ WroteLine (lineRoom (length (now (visits .entry)))) at
+        (scanLine reply (now (visits .entry)) matches) (now (out .entry)) (now (out .exit)) r ⌝ }
 {
     let mut next = put_heading(out, at, b'A', reply);
     next = put_scanned(out, next, reply, visits, matches);

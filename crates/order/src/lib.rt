@@ -1,5 +1,5 @@
-// The order in which a scan visits the buckets. Numbers only: a message's level follows from its bucket's number, so the list of
-// the buckets that were sent a message is all that a scan has to remember.
+// The order in which a scan visits the buckets. Numbers only: a message's level follows from its bucket's number, so
+// the list of the buckets that were sent a message is all that a scan has to remember.
 use address::FIRST_BUCKETS;
 use address::Image;
 ghost use mathlib.Core.Path.{_≡_};
@@ -39,8 +39,11 @@ fn send_first(count: usize, queue: &mut [u16])
 // A bucket of level `own` that gets message level `told` sends to the child of each level between, behind the first
 // `tail` in the list. Answers how many there are then.
 fn send_on(bucket: u32, told: u32, own: u32, tail: usize, queue: &mut [u16]) -> usize
-    requires { ⌜ Room firstBuckets own × (tail + (own - told) ≤ length (now queue)) × ((k : ℕ) → told ≤ k → k < own → child firstBuckets bucket k < 65536) ⌝ }
-    ensures { λ r. ⌜ (r ≡ tail + (own - told)) × (take r (now (queue .exit)) ≡ take tail (now (queue .entry)) ++ born firstBuckets bucket told (own - told)) ⌝ }
+    requires { ⌜ Room firstBuckets own × (tail + (own - told) ≤ length (now queue))
+        × ((k : ℕ) → told ≤ k → k < own → child firstBuckets bucket k < 65536) ⌝ }
+    ensures { λ r. ⌜ (r ≡ tail + (own - told))
+        × (take r (now (queue .exit)) ≡ take tail (now (queue .entry)) ++ born firstBuckets bucket told (own - told))
+        ⌝ }
 {
     let mut level = told;
     let mut end = tail;

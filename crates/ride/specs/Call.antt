@@ -1,6 +1,7 @@
--- Insert and search as document 01 has them: the refusals in their order, and what is left of answer block, table and file.
+-- Insert and search as document 01 has them: the refusals in their order, and what is left of answer block, table and
+-- file.
 pub mod After
-pub mod Kept
+pub mod Keeping
 pub mod Left
 pub mod Replied
 use Prim.Native.Nat.{ℕ, suc}
@@ -11,11 +12,11 @@ use lib.ListN.{length}
 use Rattle.address.specs.Limits.{firstBuckets}
 use Rattle.address.specs.Rules.{imageAfter}
 use Rattle.layout.specs.Replies.{reply}
-use Rattle.bucket.specs.Region.{countOf, rideAt, slotOf}
+use Rattle.bucket.specs.Region.{countOf, rideAt, slotOf, every}
 use Rattle.client.specs.Table.{imageOf, withImage}
 use Rattle.file.specs.File.{capacityOf, stateOf, regionOf, bucketSoundIn, withRide}
 use Rattle.answer.specs.Answer.{block, noPayload}
-use Rattle.route.specs.Way.{early, cut, everyOn, wayOf, ownOf, held, full}
+use Rattle.route.specs.Way.{early, cut, wayOf, ownOf, held, full}
 
 -- What a key call leaves: its reply, the answer block, the client table and the file.
 pub record Outcome : Type 0 where
@@ -26,16 +27,19 @@ pub record Outcome : Type 0 where
 
 -- The image after the call: adjusted with 0, 1, 8 and 9, and with nothing else.
 pub adjustedTable : List ℕ → List ℕ → ℕ → ℕ → List ℕ
-adjustedTable file table client key = withImage table client (imageAfter firstBuckets (stateOf file) (imageOf table client) key)
+adjustedTable file table client key = withImage table client
+    (imageAfter firstBuckets (stateOf file) (imageOf table client) key)
 
--- A call up to its route: 14 if the answer block is not 24 bytes or insert's payload not 14, 2 to 6, 7, else what it comes to once the key's own bucket is reached.
+-- A call up to its route: 14 if the answer block is not 24 bytes or insert's payload not 14, 2 to 6, 7, else what it
+-- comes to once the key's own bucket is reached.
 pub routed : Bool → List ℕ → List ℕ → ℕ → ℕ → List ℕ → Outcome → Outcome
 routed fits file table client key answer reached =
     let r = reply (early file table client) 0 in
     let way = wayOf file (imageOf table client) key in
     cond (not fits) (record { answer = 14; block = answer; table = table; file = file })
     (cond (not (eqb r 0)) (record { answer = r; block = block r [] 0 noPayload; table = table; file = file })
-    (cond (not (everyOn (bucketSoundIn file) way)) (record { answer = 7; block = block 7 (cut (bucketSoundIn file) way) 0 noPayload; table = table; file = file })
+    (cond (not (every (bucketSoundIn file) way))
+    (record { answer = 7; block = block 7 (cut (bucketSoundIn file) way) 0 noPayload; table = table; file = file })
     reached))
 
 -- A search that has reached the key's own bucket: 0 with the payload found, or 1.
@@ -44,11 +48,19 @@ searched file table client key =
     let way = wayOf file (imageOf table client) key in
     let after = adjustedTable file table client key in
     let region = regionOf file (ownOf file key) in
-    cond (held file key) (record { answer = 0; block = block 0 way 0 (rideAt region (slotOf region key) .payload); table = after; file = file })
+    cond (held file key)
+    (record {
+      answer = 0;
+      block = block 0 way 0 (rideAt region (slotOf region key) .payload);
+      table = after;
+      file =
+          file;
+    })
     (record { answer = 1; block = block 1 way 0 noPayload; table = after; file = file })
 
 pub search : List ℕ → List ℕ → ℕ → ℕ → List ℕ → Outcome
-search file table client key answer = routed (eqb (length answer) 24) file table client key answer (searched file table client key)
+search file table client key answer = routed (eqb (length answer) 24) file table client key answer
+    (searched file table client key)
 
 -- The file with the ride placed in the key's own bucket; the flag is 1 if more than b records are then held.
 pub inserted : List ℕ → ℕ → List ℕ → List ℕ
@@ -64,8 +76,15 @@ placed file table client key payload =
     let after = adjustedTable file table client key in
     cond (held file key) (record { answer = 8; block = block 8 way 0 noPayload; table = after; file = file })
     (cond (full file key) (record { answer = 9; block = block 9 way 0 noPayload; table = after; file = file })
-    (record { answer = 0; block = block 0 way (overfull file key) noPayload; table = after; file = inserted file key payload }))
+    (record {
+      answer = 0;
+      block = block 0 way (overfull file key) noPayload;
+      table = after;
+      file = inserted file key
+          payload;
+    }))
 
 pub insert : List ℕ → List ℕ → ℕ → ℕ → List ℕ → List ℕ → Outcome
 insert file table client key payload answer =
-    routed (eqb (length answer) 24 && eqb (length payload) 14) file table client key answer (placed file table client key payload)
+    routed (eqb (length answer) 24 && eqb (length payload) 14) file table client key answer
+    (placed file table client key payload)

@@ -6,7 +6,7 @@ ghost use mathlib.Core.Bool.{cond};
 ghost use lib.ListN.{length};
 ghost use lib.Dec.{ltb};
 ghost use Rattle.ride.specs.Call.{Outcome, searched, search, placed, insert};
-ghost use Rattle.ride.specs.Call.After.{Reached};
+ghost use Rattle.ride.specs.Call.After.{AtOwn};
 
 // A search that reached the key's own bucket: the payload found, or none.
 fn finish_search(
@@ -18,8 +18,12 @@ fn finish_search(
     opened: Opened,
     end: End,
 ) -> u8
-    requires { ⌜ (length (now answer) ≡ 24) × Reached (now file) (now table) client key (opened .header) (opened .image) (end .walk) (end .bucket) (end .place) ⌝ }
-    ensures { λ r. ⌜ record { answer = r; block = now (answer .exit); table = now (table .exit); file = now (file .entry) } ≡ searched (now (file .entry)) (now (table .entry)) client key ⌝ }
+    requires { ⌜ (length (now answer) ≡ 24)
+        × AtOwn (now file) (now table) client key (opened .header) (opened .image) (end .walk) (end .bucket)
+        (end .place) ⌝ }
+    ensures { λ r. ⌜
+        record { answer = r; block = now (answer .exit); table = now (table .exit); file = now (file .entry) }
+        ≡ searched (now (file .entry)) (now (table .entry)) client key ⌝ }
 {
     let header = opened.header;
     let walk = end.walk;
@@ -39,7 +43,9 @@ fn finish_search(
 
 // Searches a key through a client: 14, 2 to 6, 7, else 0 with its payload or 1.
 pub fn search(file: &[u8], table: &mut [u8], client: u64, key: u64, answer: &mut [u8]) -> u8
-    ensures { λ r. ⌜ record { answer = r; block = now (answer .exit); table = now (table .exit); file = now (file .entry) } ≡ search (now (file .entry)) (now (table .entry)) client key (now (answer .entry)) ⌝ }
+    ensures { λ r. ⌜
+        record { answer = r; block = now (answer .exit); table = now (table .exit); file = now (file .entry) }
+        ≡ search (now (file .entry)) (now (table .entry)) client key (now (answer .entry)) ⌝ }
 {
     if answer.len() != 24 {
         return 14;
@@ -79,8 +85,12 @@ fn finish_insert(
     opened: Opened,
     end: End,
 ) -> u8
-    requires { ⌜ (length (now answer) ≡ 24) × Reached (now file) (now table) client key (opened .header) (opened .image) (end .walk) (end .bucket) (end .place) × (length (now payload) ≡ 14) ⌝ }
-    ensures { λ r. ⌜ record { answer = r; block = now (answer .exit); table = now (table .exit); file = now (file .exit) } ≡ placed (now (file .entry)) (now (table .entry)) client key (now (payload .entry)) ⌝ }
+    requires { ⌜ (length (now answer) ≡ 24)
+        × AtOwn (now file) (now table) client key (opened .header) (opened .image) (end .walk) (end .bucket)
+        (end .place) × (length (now payload) ≡ 14) ⌝ }
+    ensures { λ r. ⌜
+        record { answer = r; block = now (answer .exit); table = now (table .exit); file = now (file .exit) }
+        ≡ placed (now (file .entry)) (now (table .entry)) client key (now (payload .entry)) ⌝ }
 {
     let header = opened.header;
     let walk = end.walk;
@@ -110,7 +120,9 @@ pub fn insert(
     payload: &[u8],
     answer: &mut [u8],
 ) -> u8
-    ensures { λ r. ⌜ record { answer = r; block = now (answer .exit); table = now (table .exit); file = now (file .exit) } ≡ insert (now (file .entry)) (now (table .entry)) client key (now (payload .entry)) (now (answer .entry)) ⌝ }
+    ensures { λ r. ⌜
+        record { answer = r; block = now (answer .exit); table = now (table .exit); file = now (file .exit) }
+        ≡ insert (now (file .entry)) (now (table .entry)) client key (now (payload .entry)) (now (answer .entry)) ⌝ }
 {
     let fits = (answer.len() == 24) & (payload.len() == 14);
     if !fits {

@@ -9,7 +9,9 @@ ghost use Rattle.turn.specs.Session.{printedFrom, printed, roomFor};
 // Runs the lines of an input one after another; what follows the last line feed is no command.
 fn run_lines(input: &[u8], file: &mut [u8], table: &mut [u8], out: &mut [u8]) -> usize
     requires { ⌜ roomFor (length (now input)) ≤ length (now out) ⌝ }
-    ensures { λ r. ⌜ Wrote 0 (printedFrom (now (file .entry)) (now (table .entry)) (pieces lineFeed (now (input .entry)))) (now (out .entry)) (now (out .exit)) r ⌝ }
+    ensures { λ r. ⌜ Wrote 0
+        (printedFrom (now (file .entry)) (now (table .entry)) (pieces lineFeed (now (input .entry)))) (now (out .entry))
+        (now (out .exit)) r ⌝ }
 {
     let mut from = 0;
     let mut at = 0;

@@ -1,5 +1,6 @@
--- What a call of a client begins with, as document 01 has it: the refusals 2 to 6 in their order, the route of a key, and the key's own bucket.
-pub mod Kept
+-- What a call of a client begins with, as document 01 has it: the refusals 2 to 6 in their order, the route of a key,
+-- and the key's own bucket.
+pub mod Keeping
 pub mod Noted
 pub mod Open
 pub mod Own
@@ -7,11 +8,11 @@ pub mod Route
 use Prim.Native.Nat.{ℕ}
 use mathlib.Core.Bool.{Bool, true, cond, not, _&&_}
 use mathlib.Core.List.{List, [], _∷_, _++_}
-use lib.Dec.{leb, ltb}
+use lib.Dec.{leb, ltb, eqb}
 use lib.ListN.{take}
 use Rattle.address.specs.Limits.{firstBuckets}
 use Rattle.address.specs.declared.Image.{Image}
-use Rattle.address.specs.Rules.{buckets, address, route}
+use Rattle.address.specs.Rules.{buckets, address, level, adjusted, route}
 use Rattle.layout.specs.Replies.{Refusal, refuse}
 use Rattle.bucket.specs.Region.{countOf, slotOf}
 use Rattle.client.specs.Table.{imageOf, recordSound, tableRefusals}
@@ -32,11 +33,6 @@ pub cut : (ℕ → Bool) → List ℕ → List ℕ
 cut test [] = []
 cut test (a ∷ way) = a ∷ cond (test a) (cut test way) []
 
--- 7 is given unless every bucket on the way passes the test.
-pub everyOn : (ℕ → Bool) → List ℕ → Bool
-everyOn test [] = true
-everyOn test (a ∷ way) = test a && everyOn test way
-
 -- The route of a key from a client's image: the rules' route.
 pub wayOf : List ℕ → Image → ℕ → List ℕ
 wayOf file image key = route firstBuckets (stateOf file) image key
@@ -44,6 +40,11 @@ wayOf file image key = route firstBuckets (stateOf file) image key
 -- The buckets that a walk has noted, at most three.
 pub noted : Walk → List ℕ
 noted walk = take (walk .count) (walk .first ∷ walk .second ∷ walk .third ∷ [])
+
+-- The image after a walk, by its first bucket, which kept the key if it is the only one.
+abbrev pub adjustedBy : Image → Image → Walk → Image
+adjustedBy state image walk =
+    adjusted firstBuckets image (walk .first) (level firstBuckets state (walk .first)) (eqb (walk .count) 1)
 
 -- The key's own bucket, whether it holds the key, and whether it holds S records.
 pub ownOf : List ℕ → ℕ → ℕ

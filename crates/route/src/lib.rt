@@ -7,15 +7,15 @@ ghost use mathlib.Core.Bool.{true};
 ghost use mathlib.Core.List.{_++_, _∷_, []};
 ghost use Prim.Native.Nat.{_+_, _*_, _≤_, _<_};
 ghost use lib.ListN.{length};
-ghost use lib.Dec.{eqb};
+ghost use Rattle.address.specs.Limits.{firstBuckets, mostLevel, mostBuckets};
 ghost use Rattle.address.specs.Room.{ImageRoom};
-ghost use Rattle.address.specs.Rules.{Formed, NotAhead, level, adjusted};
+ghost use Rattle.address.specs.Rules.{Formed, NotAhead};
 ghost use Rattle.client.specs.Table.{withImage};
 ghost use Rattle.bucket.specs.Region.{slotOf};
 ghost use Rattle.file.specs.File.{stateOf, regionOf};
 ghost use Rattle.file.specs.File.Judge.{Known};
 ghost use Rattle.layout.specs.Replies.{reply};
-ghost use Rattle.route.specs.Way.{wayOf, early, noted};
+ghost use Rattle.route.specs.Way.{wayOf, early, noted, adjustedBy};
 ghost use Rattle.route.specs.Way.Open.{Opening};
 ghost use Rattle.route.specs.Way.Route.{Walked};
 
@@ -67,8 +67,9 @@ fn note(walk: Walk, bucket: u32) -> Walk
 
 // Walks a key's route from a client's image until a bucket keeps it or is unsound.
 pub fn walk_route(file: &[u8], header: Header, image: Image, key: u64) -> End
-    requires { ⌜ Known (now file) header × (image .level ≤ 12) × Formed 1 image × NotAhead 1 (stateOf (now file)) image ⌝ }
-    ensures { λ r. ⌜ Walked (now (file .entry)) key (wayOf (now (file .entry)) image key) (r .walk) (r .bucket) (r .sound) × (r .sound ≡ true → r .place ≡ slotOf (regionOf (now (file .entry)) (r .bucket)) key) ⌝ }
+    requires { ⌜ Known (now file) header × (image .level ≤ mostLevel) × Formed firstBuckets image × NotAhead firstBuckets (stateOf (now file)) image ⌝ }
+    ensures { λ r. ⌜ Walked (now (file .entry)) key (wayOf (now (file .entry)) image key) (r .walk) (r .bucket)
+        (r .sound) × (r .sound ≡ true → r .place ≡ slotOf (regionOf (now (file .entry)) (r .bucket)) key) ⌝ }
 {
     let state = header.state;
     let mut bucket = address::address(address::FIRST_BUCKETS, image, key);
@@ -132,7 +133,8 @@ fn not_opened(reply: u8) -> Opened
 
 // Judges table, client, record, header and image in the replies' order: 2, 3, 4, 5, 6, or 0.
 pub fn open(file: &[u8], table: &[u8], client: u64) -> Opened
-    ensures { λ r. ⌜ (r .reply ≡ reply (early (now (file .entry)) (now (table .entry)) client) 0) × (r .reply ≡ 0 → Opening (now (file .entry)) (now (table .entry)) client (r .header) (r .image)) ⌝ }
+    ensures { λ r. ⌜ (r .reply ≡ reply (early (now (file .entry)) (now (table .entry)) client) 0)
+        × (r .reply ≡ 0 → Opening (now (file .entry)) (now (table .entry)) client (r .header) (r .image)) ⌝ }
 {
     let refused = client::table_refusal(table, client);
     if refused != 0 {
@@ -162,8 +164,11 @@ pub fn open(file: &[u8], table: &[u8], client: u64) -> Opened
 
 // Writes a client's image after its first bucket did or did not keep the key.
 pub fn adjust(table: &mut [u8], client: u64, header: Header, image: Image, walk: Walk)
-    requires { ⌜ (8 * client + 8 ≤ length (now table)) × ImageRoom 1 (header .state) × (walk .first ≤ 4096) × (adjusted 1 image (walk .first) (level 1 (header .state) (walk .first)) (eqb (walk .count) 1) .level < 256) × (adjusted 1 image (walk .first) (level 1 (header .state) (walk .first)) (eqb (walk .count) 1) .pointer < 65536) ⌝ }
-    ensures { λ _. ⌜ now (table .exit) ≡ withImage (now (table .entry)) client (adjusted 1 image (walk .first) (level 1 (header .state) (walk .first)) (eqb (walk .count) 1)) ⌝ }
+    requires { ⌜ (8 * client + 8 ≤ length (now table)) × ImageRoom firstBuckets (header .state)
+        × (walk .first ≤ mostBuckets) × (adjustedBy (header .state) image walk .level < 256)
+        × (adjustedBy (header .state) image walk .pointer < 65536) ⌝ }
+    ensures { λ _. ⌜ now (table .exit)
+        ≡ withImage (now (table .entry)) client (adjustedBy (header .state) image walk) ⌝ }
 {
     let first = walk.first;
     let level = address::level_of(address::FIRST_BUCKETS, header.state, first);

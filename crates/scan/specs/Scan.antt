@@ -1,5 +1,6 @@
--- A scan as document 01 has it: the refusals in their order, the buckets visited, the matching keys, and what is left of both lists.
-pub mod Accepted
+-- A scan as document 01 has it: the refusals in their order, the buckets visited, the matching keys, and what is left
+-- of both lists.
+pub mod Outcome
 pub mod Bits
 pub mod Fill
 pub mod Found
@@ -16,10 +17,11 @@ use Rattle.address.specs.declared.Image.{Image}
 use Rattle.address.specs.Rules.{visits}
 use Rattle.layout.specs.Bytes.{edit}
 use Rattle.layout.specs.Replies.{reply}
-use Rattle.bucket.specs.Region.{ridesOf, keysOf}
+use Rattle.bucket.specs.Region.{ridesOf, keysOf, every}
 use Rattle.client.specs.Table.{imageOf}
 use Rattle.file.specs.File.{stateOf, bucketsOf, regionOf, bucketSoundIn}
-use Rattle.route.specs.Way.{early, everyOn}
+use Rattle.route.specs.Way.{early}
+use Rattle.scan.specs.declared.ScanAnswer.{ScanAnswer}
 
 -- A key's upper 32 bits are the lift: it is of a lift if they are that number.
 pub ofLift : ℕ → ℕ → Bool
@@ -48,7 +50,8 @@ pub firstUnsound : List ℕ → List ℕ → ℕ
 firstUnsound file [] = noBucket
 firstUnsound file (a ∷ way) = cond (bucketSoundIn file a) (firstUnsound file way) a
 
--- What a scan answers, its reply, a bucket's number and both counts, and what it leaves of the visit list and of the match list.
+-- What a scan answers, its reply, a bucket's number and both counts, and what it leaves of the visit list and of the
+-- match list.
 pub record Scanned : Type 0 where
   pub answer : ℕ
   pub bucket : ℕ
@@ -57,16 +60,30 @@ pub record Scanned : Type 0 where
   pub visitList : List ℕ
   pub matchList : List ℕ
 
+-- A scan's answer, with the lists as it leaves them.
+abbrev pub leaving : ScanAnswer → List ℕ → List ℕ → Scanned
+leaving r visits matches =
+    record {
+      answer = r .reply;
+      bucket = r .bucket;
+      visits = r .visits;
+      matches = r .matches;
+      visitList = visits;
+      matchList = matches;
+    }
+
 -- A refused scan answers counts 0, and leaves both lists untouched.
 pub refused : ℕ → ℕ → List ℕ → List ℕ → Scanned
-refused r a visits matches = record { answer = r; bucket = a; visits = 0; matches = 0; visitList = visits; matchList = matches }
+refused r a visits matches =
+    record { answer = r; bucket = a; visits = 0; matches = 0; visitList = visits; matchList = matches }
 
--- A scan of the buckets on a way: 7 (first in visit order), 12 (match list shorter than the matches), else it writes visited bucket numbers and
--- matching keys and answers both counts; list entries past them keep their content. The bucket's number is the unsound one with 7, otherwise 65,535.
+-- A scan of the buckets on a way: 7 (first in visit order), 12 (match list shorter than the matches), else it writes
+-- visited bucket numbers and matching keys and answers both counts; list entries past them keep their content. The
+-- bucket's number is the unsound one with 7, otherwise 65,535.
 pub collected : List ℕ → ℕ → List ℕ → List ℕ → List ℕ → Scanned
 collected file lift way visits matches =
     let found = matchesOn file lift way in
-    cond (not (everyOn (bucketSoundIn file) way)) (refused 7 (firstUnsound file way) visits matches)
+    cond (not (every (bucketSoundIn file) way)) (refused 7 (firstUnsound file way) visits matches)
     (cond (ltb (length matches) (length found)) (refused 12 noBucket visits matches)
     (record {
       answer = 0;

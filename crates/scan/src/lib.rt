@@ -3,18 +3,18 @@
 use address::Image;
 use file::Header;
 ghost use mathlib.Core.Path.{_≡_};
-ghost use mathlib.Core.Bool.{true, cond};
+ghost use mathlib.Core.Bool.{true};
 ghost use Prim.Native.Nat.{_+_, _^_, _≤_, _<_};
 ghost use lib.ListN.{length};
 ghost use Rattle.layout.specs.Bytes.{edit};
+ghost use Rattle.bucket.specs.Region.{every};
 ghost use Rattle.file.specs.File.{bucketsOf, bucketSoundIn};
 ghost use Rattle.file.specs.File.Judge.{Known};
-ghost use Rattle.route.specs.Way.{everyOn};
-ghost use Rattle.scan.specs.Scan.{Scanned, ofLift, keysIn, visitsOf, collected, scan};
+ghost use Rattle.scan.specs.Scan.{ofLift, keysIn, visitsOf, collected, leaving, scan};
 ghost use Rattle.scan.specs.Scan.Bits.{bitsOf, selected, selectedOn};
 ghost use Rattle.scan.specs.Scan.Fill.{Fitting};
-ghost use Rattle.scan.specs.Scan.Tally.{Judged};
-ghost use Rattle.scan.specs.Scan.Way.{Ready, Way};
+ghost use Rattle.scan.specs.Scan.Tally.{WayJudged};
+ghost use Rattle.scan.specs.Scan.Way.{Starting, Way};
 
 // A scan's reply, the unsound bucket with 7, and how many entries each list got.
 #[repr(C)]
@@ -46,16 +46,6 @@ fn of_lift(key: u64, lift: u32) -> bool
     key / 4294967296 == lift as u64
 }
 
-// A bit that is set by a test.
-fn bit(test: bool) -> u64
-    ensures { λ r. ⌜ (r ≡ cond test 1 0) × (r ≤ 1) ⌝ }
-{
-    if test {
-        return 1;
-    }
-    0
-}
-
 // Which keys of a sound bucket are of a lift, a bit for each, the first key's the lowest.
 fn match_bits(file: &[u8], header: Header, bucket: u32, lift: u32) -> u64
     requires { ⌜ Known (now file) header × (bucket < bucketsOf (now file)) × (bucketSoundIn (now file) bucket ≡ true) ⌝ }
@@ -65,16 +55,18 @@ fn match_bits(file: &[u8], header: Header, bucket: u32, lift: u32) -> u64
     let mut k = file::held_in(file, header, bucket);
     while k != 0 {
         k = k - 1;
-        bits = bits * 2 + bit(of_lift(file::key_in(file, header, bucket, k), lift));
+        bits = bits * 2
+            + bucket::chosen(of_lift(file::key_in(file, header, bucket, k), lift), 1, 0) as u64;
     }
     bits
 }
 
-// Judges the buckets of a way up to the first unsound one, notes which keys of each match, and counts the matches if all are
-// sound.
+// Judges the buckets of a way up to the first unsound one, notes which keys of each match, and counts the matches if
+// all are sound.
 fn judge_way(file: &[u8], header: Header, way: &[u16], lift: u32, bits: &mut [u64]) -> Tally
     requires { ⌜ Known (now file) header × Way (now file) (now way) × (length (now way) ≤ length (now bits)) ⌝ }
-    ensures { λ r. ⌜ Judged (now (file .entry)) lift (now (way .entry)) (r .sound) (r .bucket) (r .matches) (now (bits .exit)) ⌝ }
+    ensures { λ r. ⌜ WayJudged (now (file .entry)) lift (now (way .entry)) (r .sound) (r .bucket) (r .matches)
+        (now (bits .exit)) ⌝ }
 {
     let mut matches = 0;
     let mut k = 0;
@@ -120,8 +112,12 @@ fn put_bucket(
     matches: &mut [u64],
     from: usize,
 ) -> usize
-    requires { ⌜ Known (now file) header × (bucket < bucketsOf (now file)) × (bucketSoundIn (now file) bucket ≡ true) × (bits < 2 ^ length (keysIn (now file) bucket)) × (from + length (selected bits (keysIn (now file) bucket)) ≤ length (now matches)) ⌝ }
-    ensures { λ r. ⌜ (r ≡ from + length (selected bits (keysIn (now (file .entry)) bucket))) × (now (matches .exit) ≡ edit from (selected bits (keysIn (now (file .entry)) bucket)) (now (matches .entry))) ⌝ }
+    requires { ⌜ Known (now file) header × (bucket < bucketsOf (now file)) × (bucketSoundIn (now file) bucket ≡ true)
+        × (bits < 2 ^ length (keysIn (now file) bucket))
+        × (from + length (selected bits (keysIn (now file) bucket)) ≤ length (now matches)) ⌝ }
+    ensures { λ r. ⌜ (r ≡ from + length (selected bits (keysIn (now (file .entry)) bucket)))
+        × (now (matches .exit) ≡ edit from (selected bits (keysIn (now (file .entry)) bucket)) (now (matches .entry)))
+        ⌝ }
 {
     let mut left = bits;
     let mut slot = 0;
@@ -139,8 +135,11 @@ fn put_bucket(
 
 // Writes the keys of a way of sound buckets whose bits are set.
 fn put_matches(file: &[u8], header: Header, way: &[u16], bits: &[u64], matches: &mut [u64])
-    requires { ⌜ Known (now file) header × Way (now file) (now way) × (everyOn (bucketSoundIn (now file)) (now way) ≡ true) × Fitting (now file) (now way) (now bits) × (length (selectedOn (now file) (now way) (now bits)) ≤ length (now matches)) ⌝ }
-    ensures { λ _. ⌜ now (matches .exit) ≡ edit 0 (selectedOn (now (file .entry)) (now (way .entry)) (now (bits .entry))) (now (matches .entry)) ⌝ }
+    requires { ⌜ Known (now file) header × Way (now file) (now way) × (every (bucketSoundIn (now file)) (now way) ≡ true)
+        × Fitting (now file) (now way) (now bits)
+        × (length (selectedOn (now file) (now way) (now bits)) ≤ length (now matches)) ⌝ }
+    ensures { λ _. ⌜ now (matches .exit)
+        ≡ edit 0 (selectedOn (now (file .entry)) (now (way .entry)) (now (bits .entry))) (now (matches .entry)) ⌝ }
 {
     let mut filled = 0;
     let mut k = 0;
@@ -172,8 +171,10 @@ fn collect(
     visits: &mut [u16],
     matches: &mut [u64],
 ) -> ScanAnswer
-    requires { ⌜ Known (now file) header × Way (now file) (now way) × (length (now way) ≤ length (now bits)) × (length (now way) ≤ length (now visits)) ⌝ }
-    ensures { λ r. ⌜ record { answer = r .reply; bucket = r .bucket; visits = r .visits; matches = r .matches; visitList = now (visits .exit); matchList = now (matches .exit) } ≡ collected (now (file .entry)) lift (now (way .entry)) (now (visits .entry)) (now (matches .entry)) ⌝ }
+    requires { ⌜ Known (now file) header × Way (now file) (now way) × (length (now way) ≤ length (now bits))
+        × (length (now way) ≤ length (now visits)) ⌝ }
+    ensures { λ r. ⌜ leaving r (now (visits .exit)) (now (matches .exit))
+        ≡ collected (now (file .entry)) lift (now (way .entry)) (now (visits .entry)) (now (matches .entry)) ⌝ }
 {
     let found = judge_way(file, header, way, lift, bits);
     if !found.sound {
@@ -203,8 +204,11 @@ fn follow(
     visits: &mut [u16],
     matches: &mut [u64],
 ) -> ScanAnswer
-    requires { ⌜ Ready (now file) header image × (bucketsOf (now file) ≤ length (now order)) × (bucketsOf (now file) ≤ length (now bits)) × (bucketsOf (now file) ≤ length (now visits)) ⌝ }
-    ensures { λ r. ⌜ record { answer = r .reply; bucket = r .bucket; visits = r .visits; matches = r .matches; visitList = now (visits .exit); matchList = now (matches .exit) } ≡ collected (now (file .entry)) lift (visitsOf (now (file .entry)) image) (now (visits .entry)) (now (matches .entry)) ⌝ }
+    requires { ⌜ Starting (now file) header image × (bucketsOf (now file) ≤ length (now order))
+        × (bucketsOf (now file) ≤ length (now bits)) × (bucketsOf (now file) ≤ length (now visits)) ⌝ }
+    ensures { λ r. ⌜ leaving r (now (visits .exit)) (now (matches .exit))
+        ≡ collected (now (file .entry)) lift (visitsOf (now (file .entry)) image) (now (visits .entry))
+        (now (matches .entry)) ⌝ }
 {
     let state = header.state;
     let buckets = address::buckets(address::FIRST_BUCKETS, state) as usize;
@@ -222,7 +226,8 @@ pub fn scan(
     visits: &mut [u16],
     matches: &mut [u64],
 ) -> ScanAnswer
-    ensures { λ r. ⌜ record { answer = r .reply; bucket = r .bucket; visits = r .visits; matches = r .matches; visitList = now (visits .exit); matchList = now (matches .exit) } ≡ scan (now (file .entry)) (now (table .entry)) client lift (now (visits .entry)) (now (matches .entry)) ⌝ }
+    ensures { λ r. ⌜ leaving r (now (visits .exit)) (now (matches .exit))
+        ≡ scan (now (file .entry)) (now (table .entry)) client lift (now (visits .entry)) (now (matches .entry)) ⌝ }
 {
     let opened = route::open(file, table, client);
     if opened.reply != 0 {
@@ -248,8 +253,8 @@ pub fn scan(
             matches,
         );
     }
-    let mut order = [0u16; 4096];
-    let mut bits = [0u64; 4096];
+    let mut order = [0u16; address::MOST_BUCKETS as usize];
+    let mut bits = [0u64; address::MOST_BUCKETS as usize];
     follow(
         file,
         header,

@@ -1,4 +1,5 @@
--- The program `ridefile` as document 01 has it: the file and the clients that it makes, what each command comes to, and what is printed.
+-- The program `ridefile` as document 01 has it: the file and the clients that it makes, what each command comes to, and
+-- what is printed.
 pub mod Laws
 pub mod Route
 use Prim.Native.Nat.{ℕ, _*_}
@@ -35,8 +36,8 @@ pub record Ran : Type 0 where
   pub table : List ℕ
   pub line : List ℕ
 
--- Commands: `G` split; `I client key` insert, payload zero; `S client key`; `A client lift` scan, with room for all buckets and all records.
--- A line not so formed prints `?`.
+-- Commands: `G` split; `I client key` insert, payload zero; `S client key`; `A client lift` scan, with room for all
+-- buckets and all records. A line not so formed prints `?`.
 pub ran : List ℕ → List ℕ → Command → Ran
 ran file table Split =
     let done = split file in
@@ -49,7 +50,12 @@ ran file table (Search client key) =
     record { file = done .file; table = done .table; line = rideLine letterS (done .block) }
 ran file table (Scan client lift) =
     let done = scan file table client lift (replicate 16 0) (replicate 64 0) in
-    record { file = file; table = table; line = scanLine (done .answer) (take (done .visits) (done .visitList)) (done .matches) }
+    record {
+      file = file;
+      table = table;
+      line = scanLine (done .answer) (take (done .visits) (done .visitList))
+          (done .matches);
+    }
 ran file table Unknown = record { file = file; table = table; line = unknownLine }
 
 -- It prints one line a command line; a last one of at least one byte without its line feed prints `?`.
@@ -64,11 +70,13 @@ printedFrom file table (line ∷ next ∷ more) =
 pub printed : List ℕ → List ℕ
 printed input = printedFrom madeFile joinedTable (pieces lineFeed input)
 
--- Room for what is printed of so many bytes of input: at most 32 bytes for each, since the longest line, a scan's, is printed for a command of at least six.
+-- Room for what is printed of so many bytes of input: at most 32 bytes for each, since the longest line, a scan's, is
+-- printed for a command of at least six.
 abbrev pub roomFor : ℕ → ℕ
 roomFor bytes = 32 * bytes
 
--- What a function that runs a command owes: file and table are what the command leaves, and its line is written, within its room.
+-- What a function that runs a command owes: file and table are what the command leaves, and its line is written, within
+-- its room.
 pub record Done (room : ℕ) (ran : Ran) (file table : List ℕ) (at : ℕ) (entry exit : List ℕ) (next : ℕ) : Type 0 where
   pub holds : file ≡ ran .file
   pub knows : table ≡ ran .table

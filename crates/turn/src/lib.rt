@@ -11,7 +11,9 @@ ghost use Rattle.turn.specs.Session.{Done, ran, roomFor};
 // Splits, and writes the line.
 fn run_split(file: &mut [u8], out: &mut [u8], at: usize) -> usize
     requires { ⌜ at + lineRoom 2 ≤ length (now out) ⌝ }
-    ensures { λ r. ⌜ ((table : List ℕ) → Done (lineRoom 2) (ran (now (file .entry)) table Split) (now (file .exit)) table at (now (out .entry)) (now (out .exit)) r) ⌝ }
+    ensures { λ r. ⌜
+        ((table : List ℕ) → Done (lineRoom 2) (ran (now (file .entry)) table Split) (now (file .exit)) table at
+        (now (out .entry)) (now (out .exit)) r) ⌝ }
 {
     let answer = growth::split(file);
     lines::put_split(out, at, answer.reply, answer.old_bucket, answer.new_bucket)
@@ -27,7 +29,8 @@ fn run_insert(
     at: usize,
 ) -> usize
     requires { ⌜ at + lineRoom 3 ≤ length (now out) ⌝ }
-    ensures { λ r. ⌜ Done (lineRoom 3) (ran (now (file .entry)) (now (table .entry)) (Insert client key)) (now (file .exit)) (now (table .exit)) at (now (out .entry)) (now (out .exit)) r ⌝ }
+    ensures { λ r. ⌜ Done (lineRoom 3) (ran (now (file .entry)) (now (table .entry)) (Insert client key))
+        (now (file .exit)) (now (table .exit)) at (now (out .entry)) (now (out .exit)) r ⌝ }
 {
     let payload = [0u8; 14];
     let mut answer = [0u8; 24];
@@ -45,7 +48,8 @@ fn run_search(
     at: usize,
 ) -> usize
     requires { ⌜ at + lineRoom 3 ≤ length (now out) ⌝ }
-    ensures { λ r. ⌜ Done (lineRoom 3) (ran (now (file .entry)) (now (table .entry)) (Search client key)) (now (file .entry)) (now (table .exit)) at (now (out .entry)) (now (out .exit)) r ⌝ }
+    ensures { λ r. ⌜ Done (lineRoom 3) (ran (now (file .entry)) (now (table .entry)) (Search client key))
+        (now (file .entry)) (now (table .exit)) at (now (out .entry)) (now (out .exit)) r ⌝ }
 {
     let mut answer = [0u8; 24];
     ride::search(file, table, client, key, &mut answer);
@@ -55,7 +59,8 @@ fn run_search(
 // Scans for a lift, and writes the line.
 fn run_scan(file: &[u8], table: &[u8], client: u64, lift: u32, out: &mut [u8], at: usize) -> usize
     requires { ⌜ at + lineRoom 16 ≤ length (now out) ⌝ }
-    ensures { λ r. ⌜ Done (lineRoom 16) (ran (now (file .entry)) (now (table .entry)) (Scan client lift)) (now (file .entry)) (now (table .entry)) at (now (out .entry)) (now (out .exit)) r ⌝ }
+    ensures { λ r. ⌜ Done (lineRoom 16) (ran (now (file .entry)) (now (table .entry)) (Scan client lift))
+        (now (file .entry)) (now (table .entry)) at (now (out .entry)) (now (out .exit)) r ⌝ }
 {
     let mut visits = [0u16; 16];
     let mut matches = [0u64; 64];
@@ -67,7 +72,9 @@ fn run_scan(file: &[u8], table: &[u8], client: u64, lift: u32, out: &mut [u8], a
 // Runs the command that a line is, and writes its line.
 pub fn run_line(line: &[u8], file: &mut [u8], table: &mut [u8], out: &mut [u8], at: usize) -> usize
     requires { ⌜ at + roomFor (length (now line) + 1) ≤ length (now out) ⌝ }
-    ensures { λ r. ⌜ Done (roomFor (length (now (line .entry)) + 1)) (ran (now (file .entry)) (now (table .entry)) (commandOf (now (line .entry)))) (now (file .exit)) (now (table .exit)) at (now (out .entry)) (now (out .exit)) r ⌝ }
+    ensures { λ r. ⌜ Done (roomFor (length (now (line .entry)) + 1))
+        (ran (now (file .entry)) (now (table .entry)) (commandOf (now (line .entry)))) (now (file .exit))
+        (now (table .exit)) at (now (out .entry)) (now (out .exit)) r ⌝ }
 {
     let command = commands::read_command(line);
     match command {

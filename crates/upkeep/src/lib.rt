@@ -95,7 +95,8 @@ pub fn view(file: &[u8], bucket: u64) -> &[u8]
 // Writes the figures of a new file's header over zeros.
 fn put_figures(file: &mut [u8], capacity: u64, slots: u64, most: u64)
     requires { ⌜ (16 ≤ length (now file)) × (capacity < 256) × (slots < 256) ⌝ }
-    ensures { λ _. ⌜ now (file .exit) ≡ set (edit 6 (leBytes 2 most) (set (edit 0 fileMark (now (file .entry))) 3 capacity)) 8 slots ⌝ }
+    ensures { λ _. ⌜ now (file .exit)
+        ≡ set (edit 6 (leBytes 2 most) (set (edit 0 fileMark (now (file .entry))) 3 capacity)) 8 slots ⌝ }
 {
     layout::put(file, 0, b"LF");
     file[3] = capacity as u8;

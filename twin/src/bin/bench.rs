@@ -14,12 +14,12 @@
 //! - split: a whole round of splits, from state (i, 0) to (i + 1, 0) where the
 //!   file has all its buckets; restored likewise.
 //! - check, scan: calls on the whole file; the scan has a right image and finds
-//!   one key in eight. It is timed only with the feature `scan`.
+//!   one key in eight.
 
 use std::hint::black_box;
 use std::time::{Duration, Instant};
 use twin::random::Random;
-use twin::sides::{Side, LIBRARY, SCANS, TWIN};
+use twin::sides::{Side, LIBRARY, TWIN};
 
 const LIFTS: usize = 8;
 const PAYLOAD: [u8; 14] = [9; 14];
@@ -153,9 +153,8 @@ fn check(side: &Side, buffers: &mut Buffers, setting: &Setting) -> usize {
 
 fn scan(side: &Side, buffers: &mut Buffers, setting: &Setting) -> usize {
     let Buffers { file, table, visits, matches, .. } = buffers;
-    let scan = side.scan.expect("timed only where both sides scan");
     for _ in 0..setting.calls_on_whole {
-        assert_eq!(scan(file, table, 0, 3, visits, matches).reply, 0);
+        assert_eq!((side.scan)(file, table, 0, 3, visits, matches).reply, 0);
     }
     setting.calls_on_whole
 }
@@ -215,8 +214,7 @@ fn bench(setting: &Setting, long: &mut [u8]) {
         ("check", check),
         ("scan", scan),
     ];
-    let both_have = works.iter().filter(|(name, _)| SCANS || *name != "scan");
-    for &(name, work) in both_have {
+    for &(name, work) in works {
         print_line(setting, name, measure(setting, &starts, &mut buffers, long, work));
     }
 }

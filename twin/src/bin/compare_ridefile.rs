@@ -39,6 +39,10 @@ fn main() -> ExitCode {
 }
 
 fn compare(program: &str, cases: u64, seed: u64) -> ExitCode {
+    if let Err(error) = output_of(program, &[b""]) {
+        eprintln!("compare_ridefile: `{program}` cannot be run: {error}");
+        return ExitCode::FAILURE;
+    }
     let lowest_failing = AtomicU64::new(u64::MAX);
     let results: Vec<(Tally, Option<Difference>)> = thread::scope(|scope| {
         let start = |first| {

@@ -12,7 +12,8 @@ use Rattle.address.specs.Rules.Cases.{adjusted-kept, adjusted-level, adj
 returns : tie.Need-returns
 returns c =
     let a = c .before .args in
-    sym (ap (adjusted (a .first) (a .image) (a .bucket) (a .level)) (c .if1 .taken) ∙ adjusted-kept (a .first) (a .image) (a .bucket) (a .level))
+    sym (ap (adjusted (a .first) (a .image) (a .bucket) (a .level)) (c .if1 .taken)
+    ∙ adjusted-kept (a .first) (a .image) (a .bucket) (a .level))
 
 sub-wrapped : tie.Need-sub-wrapped
 sub-wrapped c = search needs

@@ -23,7 +23,8 @@ returns-2 : tie.Need-returns-2
 returns-2 c =
     let a = c .before .before .before .args in
     sym
-    (ap (λ (s : Bool). fate (a .first) s (a .bucket) (a .level) (a .key)) (not-false (a .sound) (c .before .before .if1 .left))
+    (ap (λ (s : Bool). fate (a .first) s (a .bucket) (a .level) (a .key))
+    (not-false (a .sound) (c .before .before .if1 .left))
     ∙ fate-keep (a .first) (a .bucket) (a .level) (a .key) (sym (c .before .hash .ensures .0) ∙ c .if2 .taken))
 
 onward-requires : tie.Need-onward-requires
@@ -34,8 +35,10 @@ returns-3 c =
     let a = c .before .before .before .before .args in
     ap SendOn (c .onward .ensures)
     ∙ sym
-    (ap (λ (s : Bool). fate (a .first) s (a .bucket) (a .level) (a .key)) (not-false (a .sound) (c .before .before .before .if1 .left))
-    ∙ fate-send (a .first) (a .bucket) (a .level) (a .key) (λ e. c .before .if2 .left (c .before .before .hash .ensures .0 ∙ e)))
+    (ap (λ (s : Bool). fate (a .first) s (a .bucket) (a .level) (a .key))
+    (not-false (a .sound) (c .before .before .before .if1 .left))
+    ∙ fate-send (a .first) (a .bucket) (a .level) (a .key)
+    (λ e. c .before .if2 .left (c .before .before .hash .ensures .0 ∙ e)))
 
 pub fate-at-spec : {M : Type 1} → statement M
 fate-at-spec = tie.close (tie.spec returns hash-requires returns-2 onward-requires returns-3)

@@ -16,7 +16,8 @@ wrapped-requires c κs = search needs
 returns : tie.Need-returns
 returns c =
     let a = c .before .before .args in
-    c .wrapped .ensures ∙ ap (wrapped (a .first) (a .image .level)) (add-one (a .image .pointer)) ∙ sym (grown-is (a .first) (a .image))
+    c .wrapped .ensures ∙ ap (wrapped (a .first) (a .image .level)) (add-one (a .image .pointer))
+    ∙ sym (grown-is (a .first) (a .image))
 
 pub grown-spec : {M : Type 1} → statement M
 grown-spec = tie.close (tie.spec add-wrapped wrapped-requires returns)

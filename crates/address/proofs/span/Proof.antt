@@ -12,8 +12,12 @@ shl-result c = search needs
 
 returns : tie.Need-returns
 returns c =
-    rw (span-shift (c .args .first) (c .args .level) (c .pre) 4294967296 (omega arith))
-    (refl, span-pos (c .args .first) (c .pre .some) (c .args .level), span-room (c .args .first) (c .args .level) (c .pre))
+    rw (span-shift (c .args .first) (c .args .level) (c .pre) 4294967296 (omega arith)) (
+      refl,
+      span-pos (c .args .first) (c .pre .some) (c .args .level),
+      span-room (c .args .first) (c .args .level)
+          (c .pre),
+    )
 
 pub span-spec : {M : Type 1} → statement M
 span-spec = tie.close (tie.spec shl-result returns)

@@ -1,5 +1,6 @@
--- The address of a key and the level of a bucket together: an existing bucket a is the address of C exactly if h_{level a}(C) = a.
--- By cases: a below the pointer, a born of a split, or a not yet split; in each h_{i+1}(C) is h_i(C) or one span more.
+-- The address of a key and the level of a bucket together: an existing bucket a is the address of C exactly if h_{level
+-- a}(C) = a. By cases: a below the pointer, a born of a split, or a not yet split; in each h_{i+1}(C) is h_i(C) or one
+-- span more.
 use Prim.Native.Nat.{ℕ, suc, _+_, _≤_, _<_}
 use mathlib.Core.Path.{_≡_, ap}
 use mathlib.Core.Logic.{_↔_, _⊎_, inl, inr, ⊎-elim}
@@ -34,7 +35,8 @@ module _ (N : ℕ) (positive : 0 < N) (s : Image) (formed : Formed N s) where
   module _ (a C : ℕ) (exists : a < buckets N s) where
     -- what the key's own bucket shows of it, and what shows the key's own bucket
     pub address-own : address N s C ≡ a ↔ hash N (level N s a) C ≡ a
-    address-own = go (below low (s .pointer)) (below a (s .pointer)) (below a (span N (s .level))) (hash-suc N positive (s .level) C)
+    address-own = go (below low (s .pointer)) (below a (s .pointer)) (below a (span N (s .level)))
+        (hash-suc N positive (s .level) C)
       where
         low : ℕ
         low = hash N (s .level) C
@@ -52,10 +54,19 @@ module _ (N : ℕ) (positive : 0 < N) (s : Image) (formed : Formed N s) where
         go (inl l) (inr m) (inl u) (inr v) = omega (arith, address-low N s C l, at-level (level-rest N s a m u))
         go (inl l) (inr m) (inr u) v = omega (arith, address-low N s C l, at-level (level-born N s a u))
         go (inr l) (inl m) u (inl v) = omega (arith, address-high N s C l, at-level (level-split N s a m))
-        go (inr l) (inl m) u (inr v) = omega (arith, address-high N s C l, at-level (level-split N s a m), buckets-is N s)
+        go (inr l) (inl m) u (inr v) = omega
+            (arith, address-high N s C l, at-level (level-split N s a m), buckets-is N s)
         go (inr l) (inr m) (inl u) v = omega (arith, address-high N s C l, at-level (level-rest N s a m u))
-        go (inr l) (inr m) (inr u) (inl v) = omega (arith, address-high N s C l, at-level (level-born N s a u), hash-lt N positive (s .level) C)
-        go (inr l) (inr m) (inr u) (inr v) = omega (arith, address-high N s C l, at-level (level-born N s a u), hash-lt N positive (s .level) C, buckets-is N s)
+        go (inr l) (inr m) (inr u) (inl v) = omega
+            (arith, address-high N s C l, at-level (level-born N s a u), hash-lt N positive (s .level) C)
+        go (inr l) (inr m) (inr u) (inr v) = omega (
+          arith,
+          address-high N s C l,
+          at-level (level-born N s a u),
+          hash-lt N positive (s .level) C,
+          buckets-is N
+              s,
+        )
 
   -- a bucket's number is its own address
   pub address-number : (a : ℕ) → a < buckets N s → address N s a ≡ a

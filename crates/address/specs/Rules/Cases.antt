@@ -9,7 +9,8 @@ use borrow.Author.Tests.{lt-ltb, le-ltb, le-leb, lt-leb, eq-eqb, ne-eqb}
 use Rattle.address.specs.Compare.{below, same}
 use Rattle.address.specs.declared.Image.{Image}
 use Rattle.address.specs.declared.Fate.the-variants.{Keep, SendOn, Unsound}
-use Rattle.address.specs.Rules.{«at», span, buckets, hash, address, level, keeps, onward, fate, wrapped, adjusted, child, newborn, grown}
+use Rattle.address.specs.Rules.{«at», span, buckets, hash, address, level, keeps, onward, fate, wrapped, adjusted}
+use Rattle.address.specs.Rules.{child, newborn, grown}
 
 pub buckets-is : (N : ℕ) (s : Image) → buckets N s ≡ span N (s .level) + s .pointer
 unfolding buckets
@@ -44,7 +45,8 @@ module _ (N : ℕ) (s : Image) where
 
   pub level-born : (a : ℕ) → span N (s .level) ≤ a → level N s a ≡ suc (s .level)
   unfolding level
-  level-born a h = ⊎-elim (λ l. rw (lt-ltb a (s .pointer) l)) (λ l. rw (le-ltb a (s .pointer) l, le-leb _ _ h)) (below a (s .pointer))
+  level-born a h = ⊎-elim (λ l. rw (lt-ltb a (s .pointer) l)) (λ l. rw (le-ltb a (s .pointer) l, le-leb _ _ h))
+      (below a (s .pointer))
 
   pub level-rest : (a : ℕ) → s .pointer ≤ a → a < span N (s .level) → level N s a ≡ s .level
   unfolding level
@@ -52,12 +54,14 @@ module _ (N : ℕ) (s : Image) where
 
   pub level-low : (a : ℕ) → s .level ≤ level N s a
   level-low a = ⊎-elim (λ l. omega (arith, level-split a l))
-      (λ l. ⊎-elim (λ m. omega (arith, level-rest a l m)) (λ m. omega (arith, level-born a m)) (below a (span N (s .level))))
+      (λ l. ⊎-elim (λ m. omega (arith, level-rest a l m)) (λ m. omega (arith, level-born a m))
+      (below a (span N (s .level))))
       (below a (s .pointer))
 
   pub level-high : (a : ℕ) → level N s a ≤ suc (s .level)
   level-high a = ⊎-elim (λ l. omega (arith, level-split a l))
-      (λ l. ⊎-elim (λ m. omega (arith, level-rest a l m)) (λ m. omega (arith, level-born a m)) (below a (span N (s .level))))
+      (λ l. ⊎-elim (λ m. omega (arith, level-rest a l m)) (λ m. omega (arith, level-born a m))
+      (below a (span N (s .level))))
       (below a (s .pointer))
 
 -- the fates are three
@@ -97,7 +101,8 @@ module _ (N a j C : ℕ) where
 
   pub onward-level : hash N j C ≤ hash N (j - 1) C → onward N a j C ≡ hash N j C
   unfolding onward
-  onward-level h = ⊎-elim (λ l. rw (lt-ltb a (hash N (j - 1) C) l, le-ltb _ _ h)) (λ l. rw (le-ltb a (hash N (j - 1) C) l)) (below a (hash N (j - 1) C))
+  onward-level h = ⊎-elim (λ l. rw (lt-ltb a (hash N (j - 1) C) l, le-ltb _ _ h))
+      (λ l. rw (le-ltb a (hash N (j - 1) C) l)) (below a (hash N (j - 1) C))
 
   -- the three fates
   pub fate-unsound : fate N false a j C ≡ Unsound
@@ -115,15 +120,19 @@ module _ (N a j C : ℕ) where
 -- what a fate tells
 module _ (N a j C : ℕ) where
   pub fate-kept : (sound : Bool) → fate N sound a j C ≡ Keep → (sound ≡ true) × (hash N j C ≡ a)
-  fate-kept true e = ⊎-elim (λ h. (refl, h)) (λ h. absurd (never-kept (onward N a j C) (sym (fate-send N a j C h) ∙ e))) (same (hash N j C) a)
+  fate-kept true e = ⊎-elim (λ h. (refl, h)) (λ h. absurd (never-kept (onward N a j C) (sym (fate-send N a j C h) ∙ e)))
+      (same (hash N j C) a)
   fate-kept false e = absurd (stop-kept (sym (fate-unsound N a j C) ∙ e))
 
-  pub fate-sent : (sound : Bool) (b : ℕ) → fate N sound a j C ≡ SendOn b → (sound ≡ true) × (hash N j C ≡ a → ⊥) × (onward N a j C ≡ b)
-  fate-sent true b e = ⊎-elim (λ h. absurd (never-kept b (sym e ∙ fate-keep N a j C h))) (λ h. (refl, h, sent-same (onward N a j C) b (sym (fate-send N a j C h) ∙ e))) (same (hash N j C) a)
+  pub fate-sent : (sound : Bool) (b : ℕ) → fate N sound a j C ≡ SendOn b
+      → (sound ≡ true) × (hash N j C ≡ a → ⊥) × (onward N a j C ≡ b)
+  fate-sent true b e = ⊎-elim (λ h. absurd (never-kept b (sym e ∙ fate-keep N a j C h)))
+      (λ h. (refl, h, sent-same (onward N a j C) b (sym (fate-send N a j C h) ∙ e))) (same (hash N j C) a)
   fate-sent false b e = absurd (stop-sent b (sym (fate-unsound N a j C) ∙ e))
 
   pub fate-stopped : (sound : Bool) → fate N sound a j C ≡ Unsound → sound ≡ false
-  fate-stopped true e = ⊎-elim (λ h. absurd (stop-kept (sym e ∙ fate-keep N a j C h))) (λ h. absurd (stop-sent (onward N a j C) (sym e ∙ fate-send N a j C h))) (same (hash N j C) a)
+  fate-stopped true e = ⊎-elim (λ h. absurd (stop-kept (sym e ∙ fate-keep N a j C h)))
+      (λ h. absurd (stop-sent (onward N a j C) (sym e ∙ fate-send N a j C h))) (same (hash N j C) a)
   fate-stopped false e = refl
 
 -- adjustment

@@ -1,8 +1,10 @@
--- Facts of h_k and of 2^k, once over k and N. A level more doubles the span and leaves h_k or adds one span to it; a lower h_j is found again in a higher h_k.
+-- Facts of h_k and of 2^k, once over k and N. A level more doubles the span and leaves h_k or adds one span to it; a
+-- lower h_j is found again in a higher h_k.
 use Prim.Native.Nat.{ℕ, zero, suc, _+_, _*_, _-_, _^_, _%_, _/_, _≤_, _<_}
 use mathlib.Core.Path.{_≡_, refl, sym, ap, _∙_}
 use mathlib.Core.Logic.{_⊎_, inl, inr}
-use native.Mathlib.Nat.{mod-lt, mod-eq-of-lt, mod-le, pow-succ', mul-le-mul-left, mul-pos, mul-assoc, mod-mod-of-dvd, dvd-mul-right}
+use native.Mathlib.Nat.{mod-lt, mod-eq-of-lt, mod-le, pow-succ', mul-le-mul-left, mul-pos, mul-assoc, mod-mod-of-dvd}
+use native.Mathlib.Nat.{dvd-mul-right}
 use native.Mathlib.Omega.{arith}
 use lib.Arith.{mod-mul}
 use lib.Pow.{pow-pos, pow-mono, pow-add}
@@ -68,4 +70,5 @@ module _ (N : ℕ) (positive : 0 < N) where
   hash-hash {j} {k} h C = mod-mod-of-dvd (span N j) C (rw factor at (dvd-mul-right (span N j) (2 ^ (k - j))))
     where
       factor : span N j * 2 ^ (k - j) ≡ span N k
-      factor = mul-assoc N (2 ^ j) (2 ^ (k - j)) ∙ ap (λ (m : ℕ). N * m) (sym (pow-add 2 j (k - j)) ∙ ap (λ (m : ℕ). 2 ^ m) (omega arith))
+      factor = mul-assoc N (2 ^ j) (2 ^ (k - j))
+          ∙ ap (λ (m : ℕ). N * m) (sym (pow-add 2 j (k - j)) ∙ ap (λ (m : ℕ). 2 ^ m) (omega arith))

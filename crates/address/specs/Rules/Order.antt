@@ -1,5 +1,6 @@
--- The order of a scan's visits, found by the buckets' numbers alone: a list of all buckets that were sent a message so far, of which the first h have
--- handled theirs. A message's level follows from the bucket's number: the client's from its image, and a bucket's from a + 2^k with a < 2^k.
+-- The order of a scan's visits, found by the buckets' numbers alone: a list of all buckets that were sent a message so
+-- far, of which the first h have handled theirs. A message's level follows from the bucket's number: the client's from
+-- its image, and a bucket's from a + 2^k with a < 2^k.
 use Prim.Native.Nat.{ℕ, zero, suc, _+_, _-_, _^_, _≤_, _<_}
 use mathlib.Core.Path.{_≡_, refl, sym, ap, ap₂, _∙_}
 use mathlib.Core.List.{List, [], _∷_, _++_, map, append-nil}
@@ -11,10 +12,12 @@ use lib.ListN.{length, take, drop, getD, length-map, length-drop}
 use lib.Seq.{take-suc, drop-cons, take-append-le, drop-append-le, append-snoc}
 use Rattle.address.specs.Compare.{below}
 use Rattle.address.specs.declared.Image.{Image}
-use Rattle.address.specs.Rules.{Formed, NotAhead, span, buckets, level, child, Message, message, numbers, opening, sends, answers, handled, scan, visits}
+use Rattle.address.specs.Rules.{Formed, NotAhead, span, buckets, level, child, Message, message, numbers, opening}
+use Rattle.address.specs.Rules.{sends, answers, handled, messages, visits}
 use Rattle.address.specs.Rules.Hash.{span-is, span-suc, span-mono, span-pos}
 use Rattle.address.specs.Rules.Cases.{buckets-is, child-is, level-split, level-born, level-rest}
-use Rattle.address.specs.Rules.Scan.{AllGood, total, total-nil, child-good, next-good, next-total, waiting-total, opening-good, opening-total}
+use Rattle.address.specs.Rules.Scan.{AllGood, total, total-nil, child-good, next-good, next-total, waiting-total}
+use Rattle.address.specs.Rules.Scan.{opening-good, opening-total}
 
 -- numbers in a row by the first of them
 pub numbers-cons : (a e : ℕ) → a < e → numbers a (e - a) ≡ a ∷ numbers (a + 1) (e - (a + 1))
@@ -49,17 +52,20 @@ unfolding born
 born-length N a m zero = refl
 born-length N a m (suc c) = ap suc (born-length N a (suc m) c)
 
--- The message level m of bucket a by its number: the level in the image, or 2^(m-1) ≤ a < 2^m where the client does not believe in a.
+-- The message level m of bucket a by its number: the level in the image, or 2^(m-1) ≤ a < 2^m where the client does not
+-- believe in a.
 pub record Told (N : ℕ) (image : Image) (a m : ℕ) : Type 0 where
   pub believed : a < buckets N image → m ≡ level N image a
   pub under : buckets N image ≤ a → a < span N m
   pub above : buckets N image ≤ a → span N m ≤ a + a
 
 told-believed : (N : ℕ) (image : Image) (a m : ℕ) → a < buckets N image → m ≡ level N image a → Told N image a m
-told-believed N image a m h e = record { believed = λ b. e; under = λ b. absurd (omega arith); above = λ b. absurd (omega arith) }
+told-believed N image a m h e =
+    record { believed = λ b. e; under = λ b. absurd (omega arith); above = λ b. absurd (omega arith) }
 
 -- of any other bucket it is as many binary digits as its number has
-pub told-digits : (image : Image) (a : ℕ) → buckets 1 image ≤ a → a < 2 ^ 32 → (leadingZeros 32 a ≤ 32) × Told 1 image a (32 - leadingZeros 32 a)
+pub told-digits : (image : Image) (a : ℕ) → buckets 1 image ≤ a → a < 2 ^ 32
+    → (leadingZeros 32 a ≤ 32) × Told 1 image a (32 - leadingZeros 32 a)
 told-digits image a h small =
     let some : 0 < a = omega (arith, buckets-is 1 image, span-pos 1 (omega arith) (image .level)) in
     let (k, sum, above, under) = leading-top 32 a some small in
@@ -89,7 +95,8 @@ abbrev AllTold : ℕ → Image → List Message → Type 0
 AllTold N image [] = Unit {0}
 AllTold N image (m ∷ queue) = Told N image (m .to) (m .level) × AllTold N image queue
 
-told-append : (N : ℕ) (image : Image) (p q : List Message) → AllTold N image p → AllTold N image q → AllTold N image (p ++ q)
+told-append : (N : ℕ) (image : Image) (p q : List Message) → AllTold N image p → AllTold N image q
+    → AllTold N image (p ++ q)
 told-append N image [] q tp tq = tq
 told-append N image (m ∷ p) q tp tq = (tp .0, told-append N image p q (tp .1) tq)
 
@@ -103,9 +110,11 @@ module _ (N : ℕ) (image : Image) (imageFormed : Formed N image) where
 
       go : (a < buckets N image) ⊎ (buckets N image ≤ a) → (a < image .pointer) ⊎ (image .pointer ≤ a)
           → (a < span N (image .level)) ⊎ (span N (image .level) ≤ a) → buckets N image ≤ child N a k
-      go (inl b) (inl h) _ = omega (arith, child-is N a k, buckets-is N image, span-suc N (image .level), spans (level-split N image a h) b)
+      go (inl b) (inl h) _ = omega
+          (arith, child-is N a k, buckets-is N image, span-suc N (image .level), spans (level-split N image a h) b)
       go (inl b) (inr h) (inl l) = omega (arith, child-is N a k, buckets-is N image, spans (level-rest N image a h l) b)
-      go (inl b) (inr h) (inr l) = omega (arith, child-is N a k, buckets-is N image, span-suc N (image .level), spans (level-born N image a l) b)
+      go (inl b) (inr h) (inr l) = omega
+          (arith, child-is N a k, buckets-is N image, span-suc N (image .level), spans (level-born N image a l) b)
       go (inr b) _ _ = omega (arith, child-is N a k)
 
   sends-told : (a r l m c : ℕ) → Told N image a l → l ≤ m → a < span N m → AllTold N image (sends N a r m c)
@@ -120,10 +129,12 @@ module _ (N : ℕ) (image : Image) (imageFormed : Formed N image) where
     sends-told a r l (suc m) c t (omega arith) (omega (arith, span-suc N m)),
   )
 
-  sent-told : (a c : ℕ) → a + c ≤ buckets N image → AllTold N image (map (λ b. message b (level N image b) 0) (numbers a c))
+  sent-told : (a c : ℕ) → a + c ≤ buckets N image
+      → AllTold N image (map (λ b. message b (level N image b) 0) (numbers a c))
   unfolding numbers
   sent-told a zero h = tt
-  sent-told a (suc c) h = (told-believed N image a (level N image a) (omega arith) refl, sent-told (suc a) c (omega arith))
+  sent-told a (suc c) h =
+      (told-believed N image a (level N image a) (omega arith) refl, sent-told (suc a) c (omega arith))
 
 -- messages by the buckets that they are for
 abbrev receivers : List Message → List ℕ
@@ -138,12 +149,14 @@ unfolding sends born
 sends-born N a r m zero = refl
 sends-born N a r m (suc c) = ap (λ (l : List ℕ). child N a m ∷ l) (sends-born N a r (suc m) c)
 
-sent-numbers : (N : ℕ) (image : Image) (a c : ℕ) → receivers (map (λ b. message b (level N image b) 0) (numbers a c)) ≡ numbers a c
+sent-numbers : (N : ℕ) (image : Image) (a c : ℕ)
+    → receivers (map (λ b. message b (level N image b) 0) (numbers a c)) ≡ numbers a c
 unfolding numbers
 sent-numbers N image a zero = refl
 sent-numbers N image a (suc c) = ap (λ (l : List ℕ). a ∷ l) (sent-numbers N image (suc a) c)
 
--- A scan under way: of the buckets that were sent a message, in this order, the first h have handled it, and the rest wait.
+-- A scan under way: of the buckets that were sent a message, in this order, the first h have handled it, and the rest
+-- wait.
 record Waits (N : ℕ) (file image : Image) (h : ℕ) (sent : List ℕ) (waiting : List Message) : Type 0 where
   good : AllGood N file (image .level) waiting
   told : AllTold N image waiting
@@ -164,7 +177,7 @@ module _ (N : ℕ) (positive : 0 < N) (file : Image) (formed : Formed N file)
     (image : Image) (imageFormed : Formed N image) (behind : NotAhead N file image) where
   -- at first the client's messages wait
   pub scanning-start : Scanning N file image 0 (numbers 0 (buckets N image))
-  unfolding visits scan opening
+  unfolding visits messages opening
   scanning-start = record {
     waiting = opening N image;
     waits = record {
@@ -193,7 +206,8 @@ module _ (N : ℕ) (positive : 0 < N) (file : Image) (formed : Formed N file)
     unfolding handled
     scanning-done e =
         let none : buckets N file - h ≡ 0 = omega arith in
-        sym (so .waits .whole ∙ ap (λ (n : ℕ). take h sent ++ receivers (handled N file n (so .waiting))) none ∙ append-nil (take h sent))
+        sym (so .waits .whole ∙ ap (λ (n : ℕ). take h sent ++ receivers (handled N file n (so .waiting))) none
+        ∙ append-nil (take h sent))
 
     module _ (more : h < buckets N file) where
       none-waits : Waits N file image h sent [] → ⊥
@@ -217,29 +231,36 @@ module _ (N : ℕ) (positive : 0 < N) (file : Image) (formed : Formed N file)
         next-rest : (r l c : ℕ) → drop (suc h) (sent ++ born N (m .to) l c) ≡ receivers (queue ++ sends N (m .to) r l c)
         next-rest r l c =
             let after : drop (suc h) sent ≡ receivers queue = cc front in
-            drop-append-le (suc h) sent (born N (m .to) l c) scanning-waits ∙ ap₂ (λ (p q : List ℕ). p ++ q) after (sym (sends-born N (m .to) r l c))
+            drop-append-le (suc h) sent (born N (m .to) l c) scanning-waits
+            ∙ ap₂ (λ (p q : List ℕ). p ++ q) after (sym (sends-born N (m .to) r l c))
             ∙ sym (receivers-append queue (sends N (m .to) r l c))
 
-        next-whole : (new : List ℕ) → visits N file image ≡ take (suc h) (sent ++ new) ++ receivers (handled N file (buckets N file - suc h) (queue ++ answers N file m))
+        next-whole : (new : List ℕ)
+            → visits N file image
+            ≡ take (suc h) (sent ++ new)
+            ++ receivers (handled N file (buckets N file - suc h) (queue ++ answers N file m))
         unfolding handled
         next-whole new =
             let later : List ℕ = receivers (handled N file (buckets N file - suc h) (queue ++ answers N file m)) in
             let left : buckets N file - h ≡ suc (buckets N file - suc h) = omega arith in
             let past : take (suc h) (sent ++ new) ≡ take h sent ++ (m .to ∷ []) =
-            take-append-le (suc h) sent new scanning-waits ∙ take-suc sent h 0 scanning-waits ∙ ap (λ (a : ℕ). take h sent ++ (a ∷ [])) here in
+            take-append-le (suc h) sent new scanning-waits ∙ take-suc sent h 0 scanning-waits
+            ∙ ap (λ (a : ℕ). take h sent ++ (a ∷ [])) here in
             w .whole ∙ ap (λ (n : ℕ). take h sent ++ receivers (handled N file n (m ∷ queue))) left
             ∙ sym (append-snoc (take h sent) (m .to) later) ∙ ap (λ (l : List ℕ). l ++ later) (sym past)
 
         answered : Answered N file image h sent (m .to) (m .level)
         unfolding answers
         answered = record {
-          children = λ k low high. child-good N positive file formed 0 (m .to) 0 k (w .good .0 .exists) high (omega (arith, w .good .0 .low, span-mono N low)) (omega arith) .exists;
+          children = λ k low high. child-good N positive file formed 0 (m .to) 0 k (w .good .0 .exists) high
+              (omega (arith, w .good .0 .low, span-mono N low)) (omega arith) .exists;
           next = record {
             waiting = queue ++ answers N file m;
             waits = record {
               good = next-good N positive file formed (image .level) m queue (w .good);
               told = told-append N image queue (answers N file m) (w .told .1)
-                  (sends-told N image imageFormed (m .to) (m .round) (m .level) (m .level) (level N file (m .to) - m .level) (w .told .0) (omega arith) (w .good .0 .low));
+                  (sends-told N image imageFormed (m .to) (m .round) (m .level) (m .level)
+                  (level N file (m .to) - m .level) (w .told .0) (omega arith) (w .good .0 .low));
               weighs = omega (arith, w .weighs, next-total N positive file formed (image .level) m queue (w .good .0));
               rest = next-rest (m .round) (m .level) (level N file (m .to) - m .level);
               whole = next-whole (born N (m .to) (m .level) (level N file (m .to) - m .level));

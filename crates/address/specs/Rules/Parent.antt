@@ -1,5 +1,5 @@
--- The parent of a bucket: for 2^k ≤ b < 2^(k+1) it is b - 2^k, the bucket of whose split b was born; the first buckets have none.
--- Trying level after level stops at that k, since spans double.
+-- The parent of a bucket: for 2^k ≤ b < 2^(k+1) it is b - 2^k, the bucket of whose split b was born; the first buckets
+-- have none. Trying level after level stops at that k, since spans double.
 use Prim.Native.Nat.{ℕ, zero, suc, _+_, _-_, _*_, _^_, _%_, _≤_, _<_}
 use mathlib.Core.Path.{_≡_, sym, ap, _∙_}
 use mathlib.Core.Logic.{_⊎_, ⊎-elim}
@@ -32,7 +32,11 @@ module _ (N : ℕ) (positive : 0 < N) (b k : ℕ) (above : span N k ≤ b) (unde
 
   pub parent-of : parent N b ≡ b - span N k
   unfolding parent
-  parent-of = rw (le-ltb b N (omega (arith, span-mono N first, span-is N 0)), top 0 b (omega arith) (omega (arith, span-above N positive k)))
+  parent-of = rw (
+    le-ltb b N (omega (arith, span-mono N first, span-is N 0)),
+    top 0 b (omega arith)
+        (omega (arith, span-above N positive k)),
+  )
     where
       first : 0 ≤ k
       first = omega arith
@@ -40,7 +44,8 @@ module _ (N : ℕ) (positive : 0 < N) (b k : ℕ) (above : span N k ≤ b) (unde
 -- the new bucket of a split was born of the bucket that was split
 pub parent-newborn : (N : ℕ) → 0 < N → (s : Image) → Formed N s → parent N (newborn N s) ≡ s .pointer
 parent-newborn N positive s formed =
-    parent-of N positive (newborn N s) (s .level) (omega (arith, newborn-is N s)) (omega (arith, newborn-is N s, span-suc N (s .level)))
+    parent-of N positive (newborn N s) (s .level) (omega (arith, newborn-is N s))
+    (omega (arith, newborn-is N s, span-suc N (s .level)))
     ∙ omega (arith, newborn-is N s)
 
 -- The leading zeros of a number of 32 bits tell the power of two to take off.

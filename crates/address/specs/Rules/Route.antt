@@ -1,6 +1,7 @@
--- A key sent by a client that is not ahead starts at a bucket that exists and reaches its own bucket in at most two forwards, each to a higher-numbered bucket.
--- The client's bucket a is h_m(C) for some m up to its level j. Where a does not keep the key, y = h_{j-1}(C) is a or more: if it is a, the next bucket
--- is a + 2^(j-1), which keeps the key; if it is more, the next bucket is y, where the key is kept or is in the first case.
+-- A key sent by a client that is not ahead starts at a bucket that exists and reaches its own bucket in at most two
+-- forwards, each to a higher-numbered bucket. The client's bucket a is h_m(C) for some m up to its level j. Where a
+-- does not keep the key, y = h_{j-1}(C) is a or more: if it is a, the next bucket is a + 2^(j-1), which keeps the key;
+-- if it is more, the next bucket is y, where the key is kept or is in the first case.
 use Prim.Native.Nat.{ℕ, zero, suc, _+_, _-_, _≤_, _<_}
 use mathlib.Core.Path.{_≡_, refl, sym, ap, _∙_}
 use mathlib.Core.List.{List, [], _∷_}
@@ -9,9 +10,11 @@ use native.Mathlib.Omega.{arith}
 use lib.ListN.{length}
 use Rattle.address.specs.Compare.{below, same}
 use Rattle.address.specs.declared.Image.{Image}
-use Rattle.address.specs.Rules.{Formed, NotAhead, span, buckets, hash, address, level, onward, forwards, following, routeFrom, route}
+use Rattle.address.specs.Rules.{Formed, NotAhead, span, buckets, hash, address, level, onward, forwards}
+use Rattle.address.specs.Rules.{following, routeFrom, route}
 use Rattle.address.specs.Rules.Hash.{span-suc, span-pos, span-mono, hash-le, hash-lt, hash-hash, hash-suc}
-use Rattle.address.specs.Rules.Cases.{buckets-is, level-split, level-born, level-rest, level-low, level-high, onward-near, onward-past, onward-level, fate-keep, fate-send}
+use Rattle.address.specs.Rules.Cases.{buckets-is, level-split, level-born, level-rest, level-low, level-high}
+use Rattle.address.specs.Rules.Cases.{onward-near, onward-past, onward-level, fate-keep, fate-send}
 use Rattle.address.specs.Rules.Address.{address-exists, address-own}
 
 -- The last bucket of a route that starts at a.
@@ -32,10 +35,12 @@ Below most (a ∷ rest) = (a < most) × Below most rest
 -- From bucket a the key is kept after h forwards, each to a higher bucket that exists.
 pub data Reaches (N : ℕ) (file : Image) (C : ℕ) : ℕ → ℕ → Type 0 where
   kept : {a : ℕ} → a < buckets N file → hash N (level N file a) C ≡ a → Reaches N file C a 0
-  sent : {a b h : ℕ} → a < buckets N file → (hash N (level N file a) C ≡ a → ⊥) → onward N a (level N file a) C ≡ b → a < b
+  sent : {a b h : ℕ} → a < buckets N file → (hash N (level N file a) C ≡ a → ⊥) → onward N a (level N file a) C ≡ b
+      → a < b
       → Reaches N file C b h → Reaches N file C a (suc h)
 
--- What a route of h forwards owes: it starts at its first bucket, ends at the key's own bucket, each forward goes to a higher bucket, and all of them exist.
+-- What a route of h forwards owes: it starts at its first bucket, ends at the key's own bucket, each forward goes to a
+-- higher bucket, and all of them exist.
 pub record Delivered (N : ℕ) (file : Image) (C first h : ℕ) (way : List ℕ) : Type 0 where
   pub rest : List ℕ
   pub is : way ≡ first ∷ rest
@@ -45,7 +50,8 @@ pub record Delivered (N : ℕ) (file : Image) (C first h : ℕ) (way : List ℕ)
   pub exist : Below (buckets N file) (first ∷ rest)
 
 -- A route by its steps.
-pub route-is : (N : ℕ) (file image : Image) (C : ℕ) → route N file image C ≡ routeFrom N file C (buckets N file) (address N image C)
+pub route-is : (N : ℕ) (file image : Image) (C : ℕ)
+    → route N file image C ≡ routeFrom N file C (buckets N file) (address N image C)
 unfolding route
 route-is N file image C = refl
 
@@ -106,7 +112,8 @@ module _ (N : ℕ) (positive : 0 < N) (file : Image) (formed : Formed N file) wh
           turned : level N file a ≡ suc (file .level) → k ≡ file .level
           turned h = omega arith
 
-  module _ (C a k : ℕ) (exists : a < buckets N file) (e : level N file a ≡ suc k) (leaves : hash N (suc k) C ≡ a → ⊥) where
+  module _ (C a k : ℕ) (exists : a < buckets N file) (e : level N file a ≡ suc k)
+      (leaves : hash N (suc k) C ≡ a → ⊥) where
     upper : hash N (level N file a) C ≡ hash N (suc k) C
     upper = ap (λ (z : ℕ). hash N z C) e
 
@@ -133,14 +140,18 @@ module _ (N : ℕ) (positive : 0 < N) (file : Image) (formed : Formed N file) wh
             ))
             (λ l. (
               omega (arith, hash-lt N positive (suc k) C, ap (span N) (l .1), buckets-is N file),
-              level-rest N file (hash N (suc k) C) (omega (arith, far, l)) (omega (arith, hash-lt N positive (suc k) C, ap (span N) (l .1))) ∙ sym (l .1),
+              level-rest N file (hash N (suc k) C) (omega (arith, far, l))
+                  (omega (arith, hash-lt N positive (suc k) C, ap (span N) (l .1))) ∙ sym (l .1),
             ))
             (place a k e (omega (arith, hash-lt N positive k C)))
 
-  -- a bucket a with h_m(C) = a, for a level m up to its own, that does not keep C: m is below its level, and a below the span under that
-  module _ (C a m : ℕ) (up : m ≤ level N file a) (own : hash N m C ≡ a) (leaves : hash N (level N file a) C ≡ a → ⊥) where
+  -- a bucket a with h_m(C) = a, for a level m up to its own, that does not keep C: m is below its level, and a below
+  -- the span under that
+  module _ (C a m : ℕ) (up : m ≤ level N file a) (own : hash N m C ≡ a)
+      (leaves : hash N (level N file a) C ≡ a → ⊥) where
     pub left-level : m < level N file a
-    left-level = ⊎-elim (λ h. h) (λ h. absurd (leaves (ap (λ (z : ℕ). hash N z C) (same-level h) ∙ own))) (below m (level N file a))
+    left-level = ⊎-elim (λ h. h) (λ h. absurd (leaves (ap (λ (z : ℕ). hash N z C) (same-level h) ∙ own)))
+        (below m (level N file a))
       where
         same-level : level N file a ≤ m → level N file a ≡ m
         same-level h = omega arith
@@ -166,24 +177,31 @@ module _ (N : ℕ) (positive : 0 < N) (file : Image) (formed : Formed N file) wh
       (λ h. (1, omega arith, last-hop C b k exists e h own))
       (same (hash N (suc k) C) b)
 
-  module _ (C a k : ℕ) (exists : a < buckets N file) (e : level N file a ≡ suc k) (leaves : hash N (suc k) C ≡ a → ⊥) where
+  module _ (C a k : ℕ) (exists : a < buckets N file) (e : level N file a ≡ suc k)
+      (leaves : hash N (suc k) C ≡ a → ⊥) where
     -- where h_{j-1}(C) is more than a, the key goes there
     near-hop : a < hash N k C → onward N a (level N file a) C ≡ hash N k C
     near-hop y = ⊎-elim
-        (λ h. onward-level N a (level N file a) C (omega (arith, upper C a k exists e leaves, lower C a k exists e leaves)) ∙ upper C a k exists e leaves ∙ h)
+        (λ h. onward-level N a (level N file a) C
+        (omega (arith, upper C a k exists e leaves, lower C a k exists e leaves)) ∙ upper C a k exists e leaves ∙ h)
         (λ h. onward-near N a (level N file a) C (omega (arith, lower C a k exists e leaves))
-        (omega (arith, upper C a k exists e leaves, lower C a k exists e leaves, h, span-pos N positive k)) ∙ lower C a k exists e leaves)
+        (omega (arith, upper C a k exists e leaves, lower C a k exists e leaves, h, span-pos N positive k))
+        ∙ lower C a k exists e leaves)
         (hash-suc N positive k C)
 
     after-near : a < span N k → a < hash N k C → (h : ℕ) × (h ≤ 1) × Reaches N file C (hash N k C) h
     after-near low y = ⊎-elim
-        (λ l. second C (hash N k C) k (omega (arith, hash-lt N positive k C, ap (span N) (l .1), buckets-is N file)) refl
+        (λ l. second C (hash N k C) k (omega (arith, hash-lt N positive k C, ap (span N) (l .1), buckets-is N file))
+        refl
         (⊎-elim
         (λ m. inr (level-split N file (hash N k C) m ∙ ap suc (sym (l .1))))
-        (λ m. inl (level-rest N file (hash N k C) m (omega (arith, hash-lt N positive k C, ap (span N) (l .1))) ∙ sym (l .1)))
+        (λ m. inl
+        (level-rest N file (hash N k C) m (omega (arith, hash-lt N positive k C, ap (span N) (l .1))) ∙ sym (l .1)))
         (below (hash N k C) (file .pointer))))
-        (λ l. second C (hash N k C) k (omega (arith, hash-lt N positive k C, span-suc N k, ap (span N) (l .1), buckets-is N file)) refl
-        (inr (level-rest N file (hash N k C) (omega (arith, l .0)) (omega (arith, hash-lt N positive k C, span-suc N k, ap (span N) (l .1))) ∙ sym (l .1))))
+        (λ l. second C (hash N k C) k
+        (omega (arith, hash-lt N positive k C, span-suc N k, ap (span N) (l .1), buckets-is N file)) refl
+        (inr (level-rest N file (hash N k C) (omega (arith, l .0))
+        (omega (arith, hash-lt N positive k C, span-suc N k, ap (span N) (l .1))) ∙ sym (l .1))))
         (place a k e low)
 
     two-hops : a < span N k → a ≤ hash N k C → (h : ℕ) × (h ≤ 2) × Reaches N file C a h
@@ -198,10 +216,12 @@ module _ (N : ℕ) (positive : 0 < N) (file : Image) (formed : Formed N file) wh
             (suc h, omega (arith, short), sent exists (stays C a k exists e leaves) (near-hop y) y rest)
 
   -- from bucket a = h_m(C), for a level m up to its own, at most two
-  pub reaches-from : (C a m : ℕ) → a < buckets N file → m ≤ level N file a → hash N m C ≡ a → (h : ℕ) × (h ≤ 2) × Reaches N file C a h
+  pub reaches-from : (C a m : ℕ) → a < buckets N file → m ≤ level N file a → hash N m C ≡ a
+      → (h : ℕ) × (h ≤ 2) × Reaches N file C a h
   reaches-from C a m exists up own = ⊎-elim
       (λ e. (0, omega arith, kept exists e))
-      (λ leaves. two-hops C a (level N file a - 1) exists (above leaves) (λ h. leaves (ap (λ (z : ℕ). hash N z C) (above leaves) ∙ h))
+      (λ leaves. two-hops C a (level N file a - 1) exists (above leaves)
+      (λ h. leaves (ap (λ (z : ℕ). hash N z C) (above leaves) ∙ h))
       (left-low C a m up own leaves) (left-under C a m up own leaves))
       (same (hash N (level N file a) C) a)
     where
@@ -214,7 +234,8 @@ module _ (N : ℕ) (positive : 0 < N) (file : Image) (formed : Formed N file) wh
   reaches-room (sent exists leaves next up rest) = omega (arith, reaches-room rest)
 
   -- so the route from there has h forwards, and ends at the key's own bucket
-  pub reaches-route : {C a h : ℕ} → Reaches N file C a h → (most : ℕ) → h < most → Delivered N file C a h (routeFrom N file C most a)
+  pub reaches-route : {C a h : ℕ} → Reaches N file C a h → (most : ℕ) → h < most
+      → Delivered N file C a h (routeFrom N file C most a)
   unfolding last
   reaches-route r zero small = absurd (omega arith)
   reaches-route {C} {a} (kept exists e) (suc most) small = record {
@@ -243,7 +264,8 @@ module _ (N : ℕ) (positive : 0 < N) (file : Image) (formed : Formed N file) wh
 
     -- which is h_m(C) for the level m that the client believes it has
     pub first-own : hash N (level N image (address N image C)) C ≡ address N image C
-    first-own = address-own N positive image imageFormed (address N image C) C (address-exists N positive image imageFormed C) .0 refl
+    first-own = address-own N positive image imageFormed (address N image C) C
+        (address-exists N positive image imageFormed C) .0 refl
 
     pub first-level : level N image (address N image C) ≤ level N file (address N image C)
     first-level = level-behind image imageFormed behind (address N image C)
@@ -265,15 +287,18 @@ module _ (N : ℕ) (positive : 0 < N) (file : Image) (formed : Formed N file) wh
         rw (d .is) (omega (arith, d .long))
 
     -- a first bucket that keeps the key is the whole route
-    pub route-right : hash N (level N file (address N image C)) C ≡ address N image C → route N file image C ≡ address N image C ∷ []
+    pub route-right : hash N (level N file (address N image C)) C ≡ address N image C
+        → route N file image C ≡ address N image C ∷ []
     unfolding route
-    route-right e = ap (λ (most : ℕ). routeFrom N file C most (address N image C)) some ∙ route-kept N file C (buckets N file - 1) (address N image C) e
+    route-right e = ap (λ (most : ℕ). routeFrom N file C most (address N image C)) some
+        ∙ route-kept N file C (buckets N file - 1) (address N image C) e
       where
         some : buckets N file ≡ suc (buckets N file - 1)
         some = omega (arith, first-exists)
 
     -- the first bucket is wrong exactly if it does not keep the key
-    pub first-right : address N image C ≡ address N file C ↔ hash N (level N file (address N image C)) C ≡ address N image C
+    pub first-right : address N image C ≡ address N file C
+        ↔ hash N (level N file (address N image C)) C ≡ address N image C
     first-right = (λ e. own .0 (sym e), λ e. sym (own .1 e))
       where
         own : address N file C ≡ address N image C ↔ hash N (level N file (address N image C)) C ≡ address N image C

@@ -1,6 +1,7 @@
--- A scan by a client that is not ahead visits each existing bucket exactly once and nothing else, and its last round is at most the highest bucket level less i'.
--- A waiting message (a, m) weighs 1 at each bucket x with h_m(x) = a. Handling it takes off just the weight at a, since h_{k}(x) = a splits into
--- h_{k+1}(x) = a and h_{k+1}(x) = a + 2^k, level by level. The opening weighs 1 at every bucket, and the whole weight is the room that is needed.
+-- A scan by a client that is not ahead visits each existing bucket exactly once and nothing else, and its last round is
+-- at most the highest bucket level less i'. A waiting message (a, m) weighs 1 at each bucket x with h_m(x) = a.
+-- Handling it takes off just the weight at a, since h_{k}(x) = a splits into h_{k+1}(x) = a and h_{k+1}(x) = a + 2^k,
+-- level by level. The opening weighs 1 at every bucket, and the whole weight is the room that is needed.
 use Prim.Native.Nat.{ℕ, zero, suc, _+_, _-_, _≤_, _<_}
 use mathlib.Core.Path.{_≡_, refl, sym, ap, _∙_}
 use mathlib.Core.Bool.{Bool, cond}
@@ -12,7 +13,9 @@ use lib.Dec.{eqb}
 use lib.ListN.{length, length-map}
 use Rattle.address.specs.Compare.{below, same}
 use Rattle.address.specs.declared.Image.{Image}
-use Rattle.address.specs.Rules.{Formed, NotAhead, span, buckets, hash, address, level, child, Message, message, numbers, opening, sends, answers, handled, scan, visits, greatest, lastRound, highest}
+use Rattle.address.specs.Rules.{Formed, NotAhead, span, buckets, hash, address, level, child, Message, message}
+use Rattle.address.specs.Rules.{numbers, opening, sends, answers, handled, messages, visits, greatest, lastRound}
+use Rattle.address.specs.Rules.{highest}
 use Rattle.address.specs.Rules.Hash.{span-suc, span-mono, hash-lt, hash-suc}
 use Rattle.address.specs.Rules.Cases.{buckets-is, level-born, level-rest, level-low, level-high}
 use Rattle.address.specs.Rules.Address.{address-exists, address-own, address-number, level-spans}
@@ -84,7 +87,8 @@ unfolding total
 total-ones N queue one zero = refl
 total-ones N queue one (suc n) = omega (arith, total-ones N queue one n, one n)
 
--- A message for a bucket that exists, at a level up to the bucket's own, a round for each level above `base` at the most.
+-- A message for a bucket that exists, at a level up to the bucket's own, a round for each level above `base` at the
+-- most.
 pub record Good (N : ℕ) (file : Image) (base : ℕ) (m : Message) : Type 0 where
   pub exists : m .to < buckets N file
   pub up : m .level ≤ level N file (m .to)
@@ -95,7 +99,8 @@ abbrev pub AllGood : ℕ → Image → ℕ → List Message → Type 0
 AllGood N file base [] = Unit {0}
 AllGood N file base (m ∷ queue) = Good N file base m × AllGood N file base queue
 
-good-append : (N : ℕ) (file : Image) (base : ℕ) (p q : List Message) → AllGood N file base p → AllGood N file base q → AllGood N file base (p ++ q)
+good-append : (N : ℕ) (file : Image) (base : ℕ) (p q : List Message) → AllGood N file base p → AllGood N file base q
+    → AllGood N file base (p ++ q)
 good-append N file base [] q gp gq = gq
 good-append N file base (m ∷ p) q gp gq = (gp .0, good-append N file base p q (gp .1) gq)
 
@@ -158,7 +163,8 @@ module _ (N : ℕ) (positive : 0 < N) (file : Image) (formed : Formed N file) wh
       → bit (eqb (hash N m x) a) ≡ bit (eqb x a) + weight N x (sends N a r m c)
   unfolding sends weight child
   sends-weight a r m zero x exists there e low =
-      bit-iff (hash N m x) a x a (λ h. sym number ∙ own .1 (at-level ∙ h), λ h. sym at-level ∙ own .0 (number ∙ h)) ∙ omega arith
+      bit-iff (hash N m x) a x a (λ h. sym number ∙ own .1 (at-level ∙ h), λ h. sym at-level ∙ own .0 (number ∙ h))
+      ∙ omega arith
     where
       number : address N file x ≡ x
       number = address-number N positive file formed x there
@@ -177,9 +183,11 @@ module _ (N : ℕ) (positive : 0 < N) (file : Image) (formed : Formed N file) wh
   module _ (base : ℕ) where
     answers-good : (m : Message) → Good N file base m → AllGood N file base (answers N file m)
     unfolding answers
-    answers-good m g = sends-good base (m .to) (m .round) (m .level) (level N file (m .to) - m .level) (g .exists) (omega (arith, g .up)) (g .low) (g .soon)
+    answers-good m g = sends-good base (m .to) (m .round) (m .level) (level N file (m .to) - m .level) (g .exists)
+        (omega (arith, g .up)) (g .low) (g .soon)
 
-    pub next-good : (m : Message) (queue : List Message) → AllGood N file base (m ∷ queue) → AllGood N file base (queue ++ answers N file m)
+    pub next-good : (m : Message) (queue : List Message) → AllGood N file base (m ∷ queue)
+        → AllGood N file base (queue ++ answers N file m)
     next-good m queue g = good-append N file base queue (answers N file m) (g .1) (answers-good m (g .0))
 
     -- handling a message takes off the weight at its bucket
@@ -189,7 +197,8 @@ module _ (N : ℕ) (positive : 0 < N) (file : Image) (formed : Formed N file) wh
     next-weight m queue g x there = omega (
       arith,
       weight-append N x queue (answers N file m),
-      sends-weight (m .to) (m .round) (m .level) (level N file (m .to) - m .level) x (g .exists) there (omega (arith, g .up)) (g .low),
+      sends-weight (m .to) (m .round) (m .level) (level N file (m .to) - m .level) x (g .exists) there
+          (omega (arith, g .up)) (g .low),
     )
 
     total-before : (m : Message) (queue : List Message) → Good N file base m → (n : ℕ) → n ≤ m .to
@@ -208,7 +217,8 @@ module _ (N : ℕ) (positive : 0 < N) (file : Image) (formed : Formed N file) wh
     unfolding total
     total-past m queue g zero h l = absurd (omega arith)
     total-past m queue g (suc n) h l = ⊎-elim
-        (λ p. omega (arith, total-past m queue g n p (omega arith), next-weight m queue g n l, bit-no n (m .to) (omega arith)))
+        (λ p. omega
+        (arith, total-past m queue g n p (omega arith), next-weight m queue g n l, bit-no n (m .to) (omega arith)))
         (λ p. omega (arith, total-before m queue g n p, next-weight m queue g n l, bit-yes n (m .to) (omega arith)))
         (below (m .to) n)
 
@@ -217,7 +227,8 @@ module _ (N : ℕ) (positive : 0 < N) (file : Image) (formed : Formed N file) wh
     next-total m queue g = total-past m queue g (buckets N file) (g .exists) (omega arith)
 
     -- each waiting message weighs 1 or more
-    pub waiting-total : (queue : List Message) → AllGood N file base queue → length queue ≤ total N queue (buckets N file)
+    pub waiting-total : (queue : List Message) → AllGood N file base queue
+        → length queue ≤ total N queue (buckets N file)
     waiting-total [] g = omega arith
     waiting-total (m ∷ queue) g = omega (
       arith,
@@ -227,7 +238,8 @@ module _ (N : ℕ) (positive : 0 < N) (file : Image) (formed : Formed N file) wh
     )
 
     -- with room for the whole weight, each bucket is visited as often as it weighs
-    handled-times : (most : ℕ) (queue : List Message) → AllGood N file base queue → total N queue (buckets N file) ≤ most
+    handled-times : (most : ℕ) (queue : List Message) → AllGood N file base queue
+        → total N queue (buckets N file) ≤ most
         → (x : ℕ) → x < buckets N file → times x (map (λ m. m .to) (handled N file most queue)) ≡ weight N x queue
     unfolding handled times weight
     handled-times zero [] g room x there = refl
@@ -236,10 +248,12 @@ module _ (N : ℕ) (positive : 0 < N) (file : Image) (formed : Formed N file) wh
     handled-times (suc most) (m ∷ queue) g room x there = omega (
       arith,
       next-weight m queue (g .0) x there,
-      handled-times most (queue ++ answers N file m) (next-good m queue g) (omega (arith, next-total m queue (g .0))) x there,
+      handled-times most (queue ++ answers N file m) (next-good m queue g) (omega (arith, next-total m queue (g .0))) x
+          there,
     )
 
-    handled-length : (most : ℕ) (queue : List Message) → AllGood N file base queue → total N queue (buckets N file) ≤ most
+    handled-length : (most : ℕ) (queue : List Message) → AllGood N file base queue
+        → total N queue (buckets N file) ≤ most
         → length (handled N file most queue) ≡ total N queue (buckets N file)
     unfolding handled
     handled-length zero [] g room = sym (total-nil N (buckets N file))
@@ -252,7 +266,8 @@ module _ (N : ℕ) (positive : 0 < N) (file : Image) (formed : Formed N file) wh
     )
 
     -- and no more room than that is ever used
-    handled-enough : (most other : ℕ) (queue : List Message) → AllGood N file base queue → total N queue (buckets N file) ≤ most → total N queue (buckets N file) ≤ other
+    handled-enough : (most other : ℕ) (queue : List Message) → AllGood N file base queue
+        → total N queue (buckets N file) ≤ most → total N queue (buckets N file) ≤ other
         → handled N file most queue ≡ handled N file other queue
     unfolding handled
     handled-enough zero zero [] g room space = refl
@@ -263,17 +278,20 @@ module _ (N : ℕ) (positive : 0 < N) (file : Image) (formed : Formed N file) wh
     handled-enough (suc most) zero (m ∷ queue) g room space = absurd (omega (arith, next-total m queue (g .0)))
     handled-enough (suc most) (suc other) [] g room space = refl
     handled-enough (suc most) (suc other) (m ∷ queue) g room space = ap (λ (rest : List Message). m ∷ rest)
-        (handled-enough most other (queue ++ answers N file m) (next-good m queue g) (omega (arith, next-total m queue (g .0))) (omega (arith, next-total m queue (g .0))))
+        (handled-enough most other (queue ++ answers N file m) (next-good m queue g)
+        (omega (arith, next-total m queue (g .0))) (omega (arith, next-total m queue (g .0))))
 
     -- whatever is handled is good
-    handled-good : (most : ℕ) (queue : List Message) → AllGood N file base queue → AllGood N file base (handled N file most queue)
+    handled-good : (most : ℕ) (queue : List Message) → AllGood N file base queue
+        → AllGood N file base (handled N file most queue)
     unfolding handled
     handled-good zero queue g = tt
     handled-good (suc most) [] g = tt
     handled-good (suc most) (m ∷ queue) g = (g .0, handled-good most (queue ++ answers N file m) (next-good m queue g))
 
 -- a number past a list of smaller ones stands nowhere in it
-times-good : (N : ℕ) (file : Image) (base : ℕ) (queue : List Message) → AllGood N file base queue → (x : ℕ) → buckets N file ≤ x
+times-good : (N : ℕ) (file : Image) (base : ℕ) (queue : List Message) → AllGood N file base queue → (x : ℕ)
+    → buckets N file ≤ x
     → times x (map (λ m. m .to) queue) ≡ 0
 unfolding times
 times-good N file base [] g x past = refl
@@ -314,7 +332,8 @@ rounds-good N file base (m ∷ queue) g = omega (
 
 module _ (N : ℕ) (positive : 0 < N) (file : Image) (formed : Formed N file)
     (image : Image) (imageFormed : Formed N image) (behind : NotAhead N file image) where
-  sent-good : (a c : ℕ) → a + c ≤ buckets N image → AllGood N file (image .level) (map (λ b. message b (level N image b) 0) (numbers a c))
+  sent-good : (a c : ℕ) → a + c ≤ buckets N image
+      → AllGood N file (image .level) (map (λ b. message b (level N image b) 0) (numbers a c))
   unfolding numbers
   sent-good a zero h = tt
   sent-good a (suc c) h = (
@@ -332,13 +351,15 @@ module _ (N : ℕ) (positive : 0 < N) (file : Image) (formed : Formed N file)
   opening-good = sent-good 0 (buckets N image) (omega arith)
 
   -- the opening weighs 1 at every bucket: the one that the client takes for its address
-  sent-past : (x a c : ℕ) → address N image x < a → a + c ≤ buckets N image → weight N x (map (λ b. message b (level N image b) 0) (numbers a c)) ≡ 0
+  sent-past : (x a c : ℕ) → address N image x < a → a + c ≤ buckets N image
+      → weight N x (map (λ b. message b (level N image b) 0) (numbers a c)) ≡ 0
   unfolding weight numbers
   sent-past x a zero past h = refl
   sent-past x a (suc c) past h = omega (
     arith,
     sent-past x (suc a) c (omega arith) (omega arith),
-    bit-no (hash N (level N image a) x) a (λ e. omega (arith, address-own N positive image imageFormed a x (omega arith) .1 e)),
+    bit-no (hash N (level N image a) x) a
+        (λ e. omega (arith, address-own N positive image imageFormed a x (omega arith) .1 e)),
   )
 
   sent-weight : (x a c : ℕ) → a ≤ address N image x → address N image x < a + c → a + c ≤ buckets N image
@@ -354,13 +375,15 @@ module _ (N : ℕ) (positive : 0 < N) (file : Image) (formed : Formed N file)
       (λ e. omega (
         arith,
         sent-weight x (suc a) c (omega (arith, e)) (omega arith) (omega arith),
-        bit-no (hash N (level N image a) x) a (λ l. e (address-own N positive image imageFormed a x (omega arith) .1 l)),
+        bit-no (hash N (level N image a) x) a
+            (λ l. e (address-own N positive image imageFormed a x (omega arith) .1 l)),
       ))
       (same (address N image x) a)
 
   opening-weight : (x : ℕ) → weight N x (opening N image) ≡ 1
   unfolding opening
-  opening-weight x = sent-weight x 0 (buckets N image) (omega arith) (omega (arith, address-exists N positive image imageFormed x)) (omega arith)
+  opening-weight x = sent-weight x 0 (buckets N image) (omega arith)
+      (omega (arith, address-exists N positive image imageFormed x)) (omega arith)
 
   -- and so the whole weight is the room that there is
   pub opening-total : total N (opening N image) (buckets N file) ≡ buckets N file
@@ -368,28 +391,31 @@ module _ (N : ℕ) (positive : 0 < N) (file : Image) (formed : Formed N file)
 
   -- each bucket of the file is visited exactly once
   pub visits-once : (x : ℕ) → x < buckets N file → times x (visits N file image) ≡ 1
-  unfolding visits scan
-  visits-once x there = handled-times N positive file formed (image .level) (buckets N file) (opening N image) opening-good (omega (arith, opening-total)) x there
+  unfolding visits messages
+  visits-once x there = handled-times N positive file formed (image .level) (buckets N file) (opening N image)
+      opening-good (omega (arith, opening-total)) x there
       ∙ opening-weight x
 
   -- and nothing else is
   pub visits-only : (x : ℕ) → buckets N file ≤ x → times x (visits N file image) ≡ 0
-  unfolding visits scan
-  visits-only x past = times-good N file (image .level) (scan N file image)
+  unfolding visits messages
+  visits-only x past = times-good N file (image .level) (messages N file image)
       (handled-good N positive file formed (image .level) (buckets N file) (opening N image) opening-good) x past
 
   pub visits-length : length (visits N file image) ≡ buckets N file
-  unfolding visits scan
-  visits-length = length-map (scan N file image) (λ m. m .to)
-      ∙ handled-length N positive file formed (image .level) (buckets N file) (opening N image) opening-good (omega (arith, opening-total)) ∙ opening-total
+  unfolding visits messages
+  visits-length = length-map (messages N file image) (λ m. m .to)
+      ∙ handled-length N positive file formed (image .level) (buckets N file) (opening N image) opening-good
+      (omega (arith, opening-total)) ∙ opening-total
 
   -- the bound of the recursion cuts nothing: with more room the same is handled
-  pub scan-whole : (most : ℕ) → buckets N file ≤ most → handled N file most (opening N image) ≡ scan N file image
-  unfolding scan
-  scan-whole most room = handled-enough N positive file formed (image .level) most (buckets N file) (opening N image) opening-good (omega (arith, opening-total)) (omega (arith, opening-total))
+  pub scan-whole : (most : ℕ) → buckets N file ≤ most → handled N file most (opening N image) ≡ messages N file image
+  unfolding messages
+  scan-whole most room = handled-enough N positive file formed (image .level) most (buckets N file) (opening N image)
+      opening-good (omega (arith, opening-total)) (omega (arith, opening-total))
 
   -- the last round is at most the highest bucket level less i'
   pub rounds : lastRound N file image ≤ highest N file - image .level
-  unfolding lastRound scan
-  rounds = rounds-good N file (image .level) (scan N file image)
+  unfolding lastRound messages
+  rounds = rounds-good N file (image .level) (messages N file image)
       (handled-good N positive file formed (image .level) (buckets N file) (opening N image) opening-good)

@@ -23,7 +23,8 @@ cast-met c = search needs
 returns-2 : tie.Need-returns-2
 returns-2 c =
     let a = c .before .before .before .before .before .args in
-    omega (arith, c .before .wide .ensures .0, c .if2 .taken) ∙ forwards-judged (a .answer .now) true (eq-eqb _ 24 (c .before .before .before .if1 .left))
+    omega (arith, c .before .wide .ensures .0, c .if2 .taken)
+    ∙ forwards-judged (a .answer .now) true (eq-eqb _ 24 (c .before .before .before .if1 .left))
 
 sub-result : tie.Need-sub-result
 sub-result c = search needs
@@ -31,7 +32,8 @@ sub-result c = search needs
 returns-3 : tie.Need-returns-3
 returns-3 c =
     let a = c .before .before .before .before .before .args in
-    omega (arith, c .before .wide .ensures .0) ∙ forwards-judged (a .answer .now) true (eq-eqb _ 24 (c .before .before .before .if1 .left))
+    omega (arith, c .before .wide .ensures .0)
+    ∙ forwards-judged (a .answer .now) true (eq-eqb _ 24 (c .before .before .before .if1 .left))
 
 pub forwards-spec : {M : Type 1} → statement M
 forwards-spec =

@@ -49,8 +49,16 @@ returns : tie.Need-returns
 returns c =
     let a = c .before .before .before .before .before .before .before .before .before .args in
     c .before .before .put .ensures
-    ∙ edit-all _ (a .answer .now) (sym (c .before .before .before .before .before .before .before .before .before .pre .0))
-    ∙ block-source (a .walk) (a .reply) (a .flag) (c .before .before .before .before .before .before .before .entry .result) (c .before .before .before .before .before .before .entry2 .result) (c .before .before .before .before .before .entry3 .result) (c .before .before .before .before .before .before .before .before .before .pre .1) (c .before .before .before .before .before .before .before .entry .ensures) (c .before .before .before .before .before .before .entry2 .ensures) (c .before .before .before .before .before .entry3 .ensures)
+    ∙ edit-all _ (a .answer .now)
+    (sym (c .before .before .before .before .before .before .before .before .before .pre .0))
+    ∙ block-source (a .walk) (a .reply) (a .flag)
+    (c .before .before .before .before .before .before .before .entry .result)
+    (c .before .before .before .before .before .before .entry2 .result)
+    (c .before .before .before .before .before .entry3 .result)
+    (c .before .before .before .before .before .before .before .before .before .pre .1)
+    (c .before .before .before .before .before .before .before .entry .ensures)
+    (c .before .before .before .before .before .before .entry2 .ensures)
+    (c .before .before .before .before .before .entry3 .ensures)
 
 pub put-block-spec : {M : Type 1} → statement M
 put-block-spec =

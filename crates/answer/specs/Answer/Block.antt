@@ -20,23 +20,29 @@ use Rattle.answer.specs.Answer.{entry, block, noPayload, forwardsIn}
 
 -- the bytes of a block, one by one
 abbrev pub blockBytes : ℕ → ℕ → ℕ → ℕ → ℕ → ℕ → List ℕ → List ℕ
-blockBytes r flag count x y z payload = r ∷ count ∷ x % 256 ∷ x / 256 % 256 ∷ y % 256 ∷ y / 256 % 256 ∷ z % 256 ∷ z / 256 % 256 ∷ flag ∷ 0 ∷ payload
+blockBytes r flag count x y z payload = r ∷ count ∷ x % 256 ∷ x / 256 % 256 ∷ y % 256 ∷ y / 256 % 256 ∷ z % 256
+    ∷ z / 256 % 256 ∷ flag ∷ 0 ∷ payload
 
 pub block-bytes : (r flag : ℕ) (way payload : List ℕ)
-    → block r way flag payload ≡ blockBytes r flag (length way) (getD way 0 noBucket) (getD way 1 noBucket) (getD way 2 noBucket) payload
+    → block r way flag payload ≡ blockBytes r flag (length way) (getD way 0 noBucket) (getD way 1 noBucket)
+    (getD way 2 noBucket) payload
 unfolding block entry
-block-bytes r flag way payload = rw (leBytes-two (getD way 0 noBucket), leBytes-two (getD way 1 noBucket), leBytes-two (getD way 2 noBucket))
+block-bytes r flag way payload = rw
+    (leBytes-two (getD way 0 noBucket), leBytes-two (getD way 1 noBucket), leBytes-two (getD way 2 noBucket))
 
 module _ (walk : Walk) where
   -- a block without a payload, from what a walk has noted
-  pub block-source : (r flag x y z : ℕ) → walk .count ≤ 3 → x ≡ shown (walk .count) 0 (walk .first) → y ≡ shown (walk .count) 1 (walk .second) → z ≡ shown (walk .count) 2 (walk .third)
+  pub block-source : (r flag x y z : ℕ) → walk .count ≤ 3 → x ≡ shown (walk .count) 0 (walk .first)
+      → y ≡ shown (walk .count) 1 (walk .second) → z ≡ shown (walk .count) 2 (walk .third)
       → blockBytes r flag (walk .count) x y z (replicate 14 0) ≡ block r (noted walk) flag noPayload
   unfolding noPayload
   block-source r flag x y z few ex ey ez = sym (block-bytes r flag (noted walk) (replicate 14 0)
-      ∙ (λ i. blockBytes r flag (noted-length walk few i) ((noted-first walk few ∙ sym ex) i) ((noted-second walk few ∙ sym ey) i) ((noted-third walk few ∙ sym ez) i) (replicate 14 0)))
+      ∙ (λ i. blockBytes r flag (noted-length walk few i) ((noted-first walk few ∙ sym ex) i)
+      ((noted-second walk few ∙ sym ey) i) ((noted-third walk few ∙ sym ez) i) (replicate 14 0)))
 
 -- a payload over the zeros
-pub block-payload : (r flag : ℕ) (way payload : List ℕ) → length payload ≡ 14 → edit 10 payload (block r way flag noPayload) ≡ block r way flag payload
+pub block-payload : (r flag : ℕ) (way payload : List ℕ) → length payload ≡ 14
+    → edit 10 payload (block r way flag noPayload) ≡ block r way flag payload
 unfolding noPayload
 block-payload r flag way payload long =
     ap (edit 10 payload) (block-bytes r flag way (replicate 14 0))
@@ -49,15 +55,18 @@ block-payload r flag way payload long =
     front = blockBytes r flag (length way) (getD way 0 noBucket) (getD way 1 noBucket) (getD way 2 noBucket)
 
 -- the forwards of a block, by whether it has 24 bytes
-pub forwards-judged : (answer : List ℕ) (fits : Bool) → eqb (length answer) 24 ≡ fits → cond fits (getD answer 1 0 - 1) 0 ≡ forwardsIn answer
+pub forwards-judged : (answer : List ℕ) (fits : Bool) → eqb (length answer) 24 ≡ fits
+    → cond fits (getD answer 1 0 - 1) 0 ≡ forwardsIn answer
 unfolding forwardsIn
 forwards-judged answer fits h = ap (λ (fit : Bool). cond fit (getD answer 1 0 - 1) 0) (sym h)
 
 -- the forwards of a block are those of its route
-pub forwards-block : (r flag : ℕ) (way payload : List ℕ) → length payload ≡ 14 → forwardsIn (block r way flag payload) ≡ forwards way
+pub forwards-block : (r flag : ℕ) (way payload : List ℕ) → length payload ≡ 14
+    → forwardsIn (block r way flag payload) ≡ forwards way
 unfolding forwardsIn
 forwards-block r flag way payload long = rw (block-bytes r flag way payload)
-    (ap (λ (fits : Bool). cond fits (length way - 1) 0) (eq-eqb (length whole) 24 (omega (arith, long))) ∙ sym (forwards-is way))
+    (ap (λ (fits : Bool). cond fits (length way - 1) 0) (eq-eqb (length whole) 24 (omega (arith, long)))
+    ∙ sym (forwards-is way))
   where
     whole : List ℕ
     whole = blockBytes r flag (length way) (getD way 0 noBucket) (getD way 1 noBucket) (getD way 2 noBucket) payload
@@ -70,6 +79,9 @@ pub none-long : length noPayload ≡ 14
 unfolding noPayload
 none-long = refl
 
-pub payload-back : (r flag : ℕ) (way payload : List ℕ) → length payload ≡ 14 → part 10 14 (block r way flag payload) ≡ payload
-payload-back r flag way payload long = ap (part 10 14) (sym (block-payload r flag way payload long)) ∙ ap (λ (n : ℕ). part 10 n (edit 10 payload (block r way flag noPayload))) (sym long)
-    ∙ part-edit 10 payload (block r way flag noPayload) (omega (arith, long, length-block r flag way noPayload none-long))
+pub payload-back : (r flag : ℕ) (way payload : List ℕ) → length payload ≡ 14
+    → part 10 14 (block r way flag payload) ≡ payload
+payload-back r flag way payload long = ap (part 10 14) (sym (block-payload r flag way payload long))
+    ∙ ap (λ (n : ℕ). part 10 n (edit 10 payload (block r way flag noPayload))) (sym long)
+    ∙ part-edit 10 payload (block r way flag noPayload)
+    (omega (arith, long, length-block r flag way noPayload none-long))

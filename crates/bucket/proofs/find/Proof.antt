@@ -12,7 +12,9 @@ use Rattle.bucket.proofs.find.Statement.{statement}
 use Rattle.bucket.proofs.find.Tie as tie
 
 abbrev Inv-loop : tie.InvT-loop
-Inv-loop region count key k₀ k = (k ≤ count) × (firstFrom (λ (i : ℕ). eqb (keyAt region i) key) (count - k) k ≡ firstFrom (λ (i : ℕ). eqb (keyAt region i) key) count 0)
+Inv-loop region count key k₀ k = (k ≤ count)
+    × (firstFrom (λ (i : ℕ). eqb (keyAt region i) key) (count - k) k
+    ≡ firstFrom (λ (i : ℕ). eqb (keyAt region i) key) count 0)
 
 abbrev μ-loop : tie.MeasureT-loop
 μ-loop region count key k₀ k = count - k
@@ -30,7 +32,8 @@ returns : tie.Need-returns Inv-loop μ-loop
 returns c =
     let a = c .before .before .before .before .before .args in
     let l = c .before .before .before .loop in
-    sym (first-here (λ (i : ℕ). eqb (keyAt (a .region .now) i) (a .key)) (a .count) (l .k) (omega arith) (eq-eqb _ _ (sym (c .before .key-at .ensures) ∙ c .if1 .taken))) ∙ l .inv .1
+    sym (first-here (λ (i : ℕ). eqb (keyAt (a .region .now) i) (a .key)) (a .count) (l .k) (omega arith)
+    (eq-eqb _ _ (sym (c .before .key-at .ensures) ∙ c .if1 .taken))) ∙ l .inv .1
 
 add-k : tie.Need-add-k Inv-loop μ-loop
 add-k c = search needs
@@ -41,14 +44,19 @@ loop-less c = search needs
 loop-again : tie.Need-loop-again Inv-loop μ-loop
 loop-again c =
     let a = c .before .before .before .before .before .args in
-    let l = c .before .before .before .loop in
-    (omega arith, sym (first-later (λ (i : ℕ). eqb (keyAt (a .region .now) i) (a .key)) (a .count) (l .k) (omega arith) (ne-eqb _ _ (λ e. c .if1 .left (c .before .key-at .ensures ∙ e)))) ∙ l .inv .1)
+    let l = c .before .before .before .loop in (
+      omega arith,
+      sym
+          (first-later (λ (i : ℕ). eqb (keyAt (a .region .now) i) (a .key)) (a .count) (l .k) (omega arith)
+          (ne-eqb _ _ (λ e. c .if1 .left (c .before .key-at .ensures ∙ e)))) ∙ l .inv .1,
+    )
 
 returns-2 : tie.Need-returns-2 Inv-loop μ-loop
 returns-2 c =
     let a = c .before .before .before .args in
     let l = c .before .loop in
-    sym (first-none (λ (i : ℕ). eqb (keyAt (a .region .now) i) (a .key)) (a .count) (l .k) (c .loop-test .left)) ∙ l .inv .1
+    sym (first-none (λ (i : ℕ). eqb (keyAt (a .region .now) i) (a .key)) (a .count) (l .k) (c .loop-test .left))
+    ∙ l .inv .1
 
 pub find-spec : {M : Type 1} → statement M
 find-spec =

@@ -1,4 +1,5 @@
--- `bucket::judge` tests head, slots and unused bytes in turn; the first that fails makes the region unsound. The key's slot comes from the slots' pass.
+-- `bucket::judge` tests head, slots and unused bytes in turn; the first that fails makes the region unsound. The key's
+-- slot comes from the slots' pass.
 use Prim.Native.Nat.{ℕ, _≤_}
 use mathlib.Core.Path.{refl, sym, ap, _∙_}
 use mathlib.Core.Bool.{false≢true}
@@ -23,8 +24,12 @@ unsound-requires c κs = search needs
 returns : tie.Need-returns
 returns c =
     let h = c .before .before .head-sound in
-    let a = c .before .before .before .before .args in
-    (c .unsound .ensures ∙ judged-head (a .slots) (a .level) (keeps (a .first) (a .bucket) (a .level)) (a .region .now) (h .result) _ (h .ensures) refl (c .before .if1 .taken), λ e. absurd (false≢true (sym (c .unsound .ensures) ∙ e)))
+    let a = c .before .before .before .before .args in (
+      c .unsound .ensures ∙ judged-head (a .slots) (a .level) (keeps (a .first) (a .bucket) (a .level)) (a .region .now)
+          (h .result) _ (h .ensures) refl (c .before .if1 .taken),
+      λ e. absurd
+          (false≢true (sym (c .unsound .ensures) ∙ e)),
+    )
 
 read2-requires : tie.Need-read2-requires
 read2-requires c κs = search needs
@@ -34,7 +39,8 @@ slots-sound-requires c κs =
     let h = c .before .before .head-sound in
     let a = c .before .before .before .before .args in
     let n = c .read2 in
-    let few : n .result ≤ a .slots = judged-few (a .slots) (a .level) (keeps (a .first) (a .bucket) (a .level)) (a .region .now) (h .result) (n .result) (h .ensures) (n .ensures .0) (c .before .if1 .left) in
+    let few : n .result ≤ a .slots = judged-few (a .slots) (a .level) (keeps (a .first) (a .bucket) (a .level))
+    (a .region .now) (h .result) (n .result) (h .ensures) (n .ensures .0) (c .before .if1 .left) in
     (c .before .before .before .before .pre .0, omega arith, omega arith)
 
 unsound-requires-2 : tie.Need-unsound-requires-2
@@ -45,8 +51,13 @@ returns-2 c =
     let h = c .before .before .before .before .before .before .head-sound in
     let a = c .before .before .before .before .before .before .before .before .args in
     let n = c .before .before .before .before .read2 in
-    let s = c .before .before .before .slots-sound in
-    (c .unsound2 .ensures ∙ judged-slots (a .slots) (a .level) (keeps (a .first) (a .bucket) (a .level)) (a .region .now) (h .result) (n .result) (h .ensures) (n .ensures .0) (c .before .before .before .before .before .if1 .left) (s .result .sound) (s .ensures .tested) (c .before .if2 .taken), λ e. absurd (false≢true (sym (c .unsound2 .ensures) ∙ e)))
+    let s = c .before .before .before .slots-sound in (
+      c .unsound2 .ensures ∙ judged-slots (a .slots) (a .level) (keeps (a .first) (a .bucket) (a .level))
+          (a .region .now) (h .result) (n .result) (h .ensures) (n .ensures .0)
+          (c .before .before .before .before .before .if1 .left) (s .result .sound) (s .ensures .tested)
+          (c .before .if2 .taken),
+      λ e. absurd (false≢true (sym (c .unsound2 .ensures) ∙ e)),
+    )
 
 mul-rest : tie.Need-mul-rest
 mul-rest c = search needs
@@ -59,7 +70,9 @@ sub-is-zero c =
     let h = c .before .before .before .before .before .head-sound in
     let a = c .before .before .before .before .before .before .before .args in
     let n = c .before .before .before .read2 in
-    let few : n .result ≤ a .slots = judged-few (a .slots) (a .level) (keeps (a .first) (a .bucket) (a .level)) (a .region .now) (h .result) (n .result) (h .ensures) (n .ensures .0) (c .before .before .before .before .if1 .left) in
+    let few : n .result ≤ a .slots = judged-few (a .slots) (a .level) (keeps (a .first) (a .bucket) (a .level))
+    (a .region .now) (h .result) (n .result) (h .ensures) (n .ensures .0)
+    (c .before .before .before .before .if1 .left) in
     omega arith
 
 part-is-zero-start : tie.Need-part-is-zero-start
@@ -77,8 +90,13 @@ returns-3 c =
     let a = c .before .before .before .before .before .before .before .before .before .args in
     let n = c .before .before .before .before .before .read2 in
     let s = c .before .before .before .before .slots-sound in (
-      judged-rest (a .slots) (a .level) (keeps (a .first) (a .bucket) (a .level)) (a .region .now) (h .result) (n .result) (h .ensures) (n .ensures .0) (c .before .before .before .before .before .before .if1 .left) (s .result .sound) (s .ensures .tested) (c .before .before .if2 .left) (c .is-zero .result) (c .is-zero .ensures),
-      λ e. s .ensures .found (not-false _ (c .before .before .if2 .left)) ∙ ap (λ (m : ℕ). firstFrom (λ i. eqb (keyAt (a .region .now) i) (a .key)) m 0) (n .ensures .0) ∙ slot-is (a .region .now) (a .key),
+      judged-rest (a .slots) (a .level) (keeps (a .first) (a .bucket) (a .level)) (a .region .now) (h .result)
+          (n .result) (h .ensures) (n .ensures .0) (c .before .before .before .before .before .before .if1 .left)
+          (s .result .sound) (s .ensures .tested) (c .before .before .if2 .left) (c .is-zero .result)
+          (c .is-zero .ensures),
+      λ e. s .ensures .found (not-false _ (c .before .before .if2 .left))
+          ∙ ap (λ (m : ℕ). firstFrom (λ i. eqb (keyAt (a .region .now) i) (a .key)) m 0) (n .ensures .0)
+          ∙ slot-is (a .region .now) (a .key),
     )
 
 pub judge-spec : {M : Type 1} → statement M

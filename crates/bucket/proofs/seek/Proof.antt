@@ -27,7 +27,8 @@ returns : tie.Need-returns Inv-loop μ-loop
 returns c =
     let a = c .before .before .before .before .before .before .args in
     let l = c .before .before .before .loop in
-    sought-met (a .region .now) (a .key) (a .count) (l .next) (l .inv) (c .before .before .loop-test .taken) (sym (c .before .key-at .ensures) ∙ c .if1 .taken)
+    sought-met (a .region .now) (a .key) (a .count) (l .next) (l .inv) (c .before .before .loop-test .taken)
+    (sym (c .before .key-at .ensures) ∙ c .if1 .taken)
 
 shared-slice-read-next : tie.Need-shared-slice-read-next Inv-loop μ-loop
 shared-slice-read-next c = search needs
@@ -37,7 +38,9 @@ cast-next c =
     let d = c .before .before .before .before .before .before .before in
     let a = d .args in
     let l = c .before .before .before .before .loop in
-    let follow = sought-next (a .region .now) (a .key) (a .count) (l .next) (l .inv) (c .before .before .before .loop-test .taken) (a .before .now) (d .pre .2) (λ e. c .before .if1 .left (c .before .before .key-at .ensures ∙ e)) in
+    let follow = sought-next (a .region .now) (a .key) (a .count) (l .next) (l .inv)
+    (c .before .before .before .loop-test .taken) (a .before .now) (d .pre .2)
+    (λ e. c .before .if1 .left (c .before .before .key-at .ensures ∙ e)) in
     omega (arith, follow .1)
 
 loop-less : tie.Need-loop-less Inv-loop μ-loop
@@ -45,7 +48,9 @@ loop-less c =
     let d = c .before .before .before .before .before .before .before in
     let a = d .args in
     let l = c .before .before .before .before .loop in
-    let follow = sought-next (a .region .now) (a .key) (a .count) (l .next) (l .inv) (c .before .before .before .loop-test .taken) (a .before .now) (d .pre .2) (λ e. c .before .if1 .left (c .before .before .key-at .ensures ∙ e)) in
+    let follow = sought-next (a .region .now) (a .key) (a .count) (l .next) (l .inv)
+    (c .before .before .before .loop-test .taken) (a .before .now) (d .pre .2)
+    (λ e. c .before .if1 .left (c .before .before .key-at .ensures ∙ e)) in
     follow .1
 
 loop-again : tie.Need-loop-again Inv-loop μ-loop
@@ -53,7 +58,9 @@ loop-again c =
     let d = c .before .before .before .before .before .before .before in
     let a = d .args in
     let l = c .before .before .before .before .loop in
-    let follow = sought-next (a .region .now) (a .key) (a .count) (l .next) (l .inv) (c .before .before .before .loop-test .taken) (a .before .now) (d .pre .2) (λ e. c .before .if1 .left (c .before .before .key-at .ensures ∙ e)) in
+    let follow = sought-next (a .region .now) (a .key) (a .count) (l .next) (l .inv)
+    (c .before .before .before .loop-test .taken) (a .before .now) (d .pre .2)
+    (λ e. c .before .if1 .left (c .before .before .key-at .ensures ∙ e)) in
     follow .0
 
 returns-2 : tie.Need-returns-2 Inv-loop μ-loop

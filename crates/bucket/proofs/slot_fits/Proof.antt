@@ -19,7 +19,8 @@ hash-requires c κs = search needs
 returns : tie.Need-returns
 returns c =
     let a = c .before .before .before .before .args in
-    fits-read (a .first) (a .bucket) (a .level) (a .region .now) (a .slot) (c .before .has-mark .result) (a .key) (c .hash .result) (c .before .has-mark .ensures) (c .hash .ensures .0)
+    fits-read (a .first) (a .bucket) (a .level) (a .region .now) (a .slot) (c .before .has-mark .result) (a .key)
+    (c .hash .result) (c .before .has-mark .ensures) (c .hash .ensures .0)
 
 pub slot-fits-spec : {M : Type 1} → statement M
 slot-fits-spec =

@@ -1,5 +1,6 @@
--- A bucket divided in place: each ride is written behind those that stay and, in the new region, behind those that move, of which one group grows.
--- What was not yet read is as it was, since no group is longer than what was read; then heads and zeros make two regions of the bytes.
+-- A bucket divided in place: each ride is written behind those that stay and, in the new region, behind those that
+-- move, of which one group grows. What was not yet read is as it was, since no group is longer than what was read; then
+-- heads and zeros make two regions of the bytes.
 use Prim.Native.Nat.{ℕ, _+_, _*_, _-_, _≤_, _<_}
 use mathlib.Core.Path.{_≡_, refl, sym, ap, ap₂, subst, _∙_}
 use mathlib.Core.Bool.{Bool, true, false, cond, not}
@@ -14,9 +15,11 @@ use lib.Seq.{length-take-le}
 use Rattle.layout.specs.Bytes.{Bytes, leAt, allBelow, edit, part}
 use Rattle.layout.specs.Bytes.Tests.{all-at}
 use Rattle.layout.specs.Bytes.Apart.{Apart, edit-apart, edit-over, edit-same, part-same, lent}
-use Rattle.layout.specs.Bytes.Edit.{length-edit, edit-in, edit-next, edit-all, part-is, part-edit, part-before, part-after, part-split, part-part, part-bytes, length-part}
+use Rattle.layout.specs.Bytes.Edit.{length-edit, edit-in, edit-next, edit-all, part-is, part-edit, part-before}
+use Rattle.layout.specs.Bytes.Edit.{part-after, part-split, part-part, part-bytes, length-part}
 use Rattle.layout.specs.Bytes.Numbers.{le-same, le-part}
-use Rattle.bucket.specs.Region.{Ride, slotAt, countOf, slotUsed, keyAt, rideAt, ridesFrom, ridesOf, headBytes, slotBytes, slotsBytes, layOut, encode, kept}
+use Rattle.bucket.specs.Region.{Ride, slotAt, countOf, slotUsed, keyAt, rideAt, ridesFrom, ridesOf, headBytes}
+use Rattle.bucket.specs.Region.{slotBytes, slotsBytes, layOut, encode, kept, halved}
 use Rattle.bucket.specs.Region.Rides.{AllWhole, kept-append, kept-whole, kept-lengths}
 use Rattle.bucket.specs.Region.Encode.{length-head, length-slot, length-slots, slots-append, length-encode}
 use Rattle.bucket.specs.Region.Sound.{length-rides, ride-whole, rides-whole, slot-again}
@@ -24,15 +27,18 @@ use Rattle.bucket.specs.Region.Judge.{key-is, rides-append}
 
 -- ---- a head written and the unused slots cleared: the bytes of a bucket
 
-pub closed : (S j at : ℕ) (rides : List Ride) (bytes : List ℕ) → AllWhole rides → length rides ≤ S → at + slotAt S ≤ length bytes
+pub closed : (S j at : ℕ) (rides : List Ride) (bytes : List ℕ) → AllWhole rides → length rides ≤ S
+    → at + slotAt S ≤ length bytes
     → part (at + 8) (24 * length rides) bytes ≡ slotsBytes rides
-    → edit (at + slotAt (length rides)) (replicate (24 * (S - length rides)) 0) (edit at (headBytes j (length rides)) bytes) ≡ edit at (encode S j rides) bytes
+    → edit (at + slotAt (length rides)) (replicate (24 * (S - length rides)) 0)
+    (edit at (headBytes j (length rides)) bytes) ≡ edit at (encode S j rides) bytes
 unfolding encode layOut
 closed S j at rides bytes whole few fits here = sym (
     sym (edit-next at head (slots ++ zeros) bytes (omega (arith, long-head, long-rest)))
     ∙ ap (λ (n : ℕ). edit n (slots ++ zeros) headed) behind
     ∙ sym (edit-next (at + 8) slots zeros headed (omega (arith, long-slots, long-zeros, long-headed)))
-    ∙ ap₂ (λ (n : ℕ) (l : List ℕ). edit n zeros l) place (edit-same (at + 8) slots headed (omega (arith, long-slots, long-headed)) still))
+    ∙ ap₂ (λ (n : ℕ) (l : List ℕ). edit n zeros l) place
+    (edit-same (at + 8) slots headed (omega (arith, long-slots, long-headed)) still))
   where
     head : List ℕ
     head = headBytes j (length rides)
@@ -68,16 +74,21 @@ closed S j at rides bytes whole few fits here = sym (
     place = omega (arith, long-slots)
 
     still : part (at + 8) (length slots) headed ≡ slots
-    still = part-after at head bytes (omega (arith, long-head)) (at + 8) (length slots) (omega (arith, long-head)) (omega (arith, long-slots))
+    still = part-after at head bytes (omega (arith, long-head)) (at + 8) (length slots) (omega (arith, long-head))
+        (omega (arith, long-slots))
         ∙ ap (λ (n : ℕ). part (at + 8) n bytes) long-slots ∙ here
 
 -- the unused slots, lent to be cleared
 pub closing : (S at count : ℕ) (headed cleared : List ℕ) → at + slotAt S ≤ length headed → count ≤ S
-    → cleared ≡ replicate (length (take (at + (8 + 24 * S) - (at + (8 + 24 * count))) (drop (at + (8 + 24 * count)) headed))) 0
-    → take (at + (8 + 24 * count)) headed ++ (cleared ++ drop (at + (8 + 24 * S) - (at + (8 + 24 * count))) (drop (at + (8 + 24 * count)) headed))
+    → cleared
+    ≡ replicate (length (take (at + (8 + 24 * S) - (at + (8 + 24 * count))) (drop (at + (8 + 24 * count)) headed)))
+    0
+    → take (at + (8 + 24 * count)) headed
+    ++ (cleared ++ drop (at + (8 + 24 * S) - (at + (8 + 24 * count))) (drop (at + (8 + 24 * count)) headed))
     ≡ edit (at + slotAt count) (replicate (24 * (S - count)) 0) headed
 closing S at count headed cleared fits few e =
-    lent (at + slotAt count) n cleared headed (sym (ap length zeros ∙ length-replicate {A = ℕ} (24 * (S - count)) 0 ∙ sym wide))
+    lent (at + slotAt count) n cleared headed
+    (sym (ap length zeros ∙ length-replicate {A = ℕ} (24 * (S - count)) 0 ∙ sym wide))
     ∙ ap (λ (l : List ℕ). edit (at + slotAt count) l headed) zeros
   where
     n : ℕ
@@ -87,7 +98,9 @@ closing S at count headed cleared fits few e =
     wide = omega arith
 
     zeros : cleared ≡ replicate (24 * (S - count)) 0
-    zeros = e ∙ ap (λ (m : ℕ). replicate {A = ℕ} m 0) (length-take-le n (drop (at + slotAt count) headed) (omega (arith, length-drop (at + slotAt count) headed)) ∙ wide)
+    zeros = e ∙ ap (λ (m : ℕ). replicate {A = ℕ} m 0)
+        (length-take-le n (drop (at + slotAt count) headed) (omega (arith, length-drop (at + slotAt count) headed))
+        ∙ wide)
 
 -- a bucket without rides
 pub closed-empty : (S j : ℕ) (region : List ℕ) → length region ≡ slotAt S
@@ -109,7 +122,8 @@ pub record Parted (own : ℕ → Bool) (entry : List ℕ) (S old new count k sta
   pub untouched : (i : ℕ) → Apart (old + 8) (24 * k) i → Apart (new + 8) (24 * k) i → getD now i 0 ≡ getD entry i 0
   pub stays : stay ≡ length (kept own (ridesFrom (part old (slotAt S) entry) 0 k))
   pub left : part (old + 8) (24 * stay) now ≡ slotsBytes (kept own (ridesFrom (part old (slotAt S) entry) 0 k))
-  pub right : part (new + 8) (24 * (k - stay)) now ≡ slotsBytes (kept (λ key. not (own key)) (ridesFrom (part old (slotAt S) entry) 0 k))
+  pub right : part (new + 8) (24 * (k - stay)) now
+      ≡ slotsBytes (kept (λ key. not (own key)) (ridesFrom (part old (slotAt S) entry) 0 k))
 
 pub parted-none : (own : ℕ → Bool) (entry : List ℕ) (S old new count : ℕ) → Parted own entry S old new count 0 0 entry
 unfolding ridesFrom kept slotsBytes
@@ -149,8 +163,11 @@ module _ (own : ℕ → Bool) (entry : List ℕ) (S old new count : ℕ) (halves
     unread i low high = so .untouched i (inr (omega arith)) (inl (omega (arith, halves .apart)))
 
     pub parted-key : (key : ℕ) → key ≡ leAt 8 now (old + (8 + 24 * k) + 2) → key ≡ keyAt (part old (slotAt S) entry) k
-    parted-key key e = e ∙ le-same 8 now entry (old + slotAt k + 2) (old + (slotAt k + 2)) (λ i h. unread (old + slotAt k + 2 + i) (omega arith) (omega (arith, halves .few)) ∙ ap (λ (n : ℕ). getD entry n 0) (place i))
-        ∙ sym (le-part 8 entry old (slotAt S) (slotAt k + 2) (omega (arith, halves .few))) ∙ sym (key-is (part old (slotAt S) entry) k)
+    parted-key key e = e ∙ le-same 8 now entry (old + slotAt k + 2) (old + (slotAt k + 2))
+        (λ i h. unread (old + slotAt k + 2 + i) (omega arith) (omega (arith, halves .few))
+        ∙ ap (λ (n : ℕ). getD entry n 0) (place i))
+        ∙ sym (le-part 8 entry old (slotAt S) (slotAt k + 2) (omega (arith, halves .few)))
+        ∙ sym (key-is (part old (slotAt S) entry) k)
       where
         place : (i : ℕ) → old + slotAt k + 2 + i ≡ old + (slotAt k + 2) + i
         place i = omega arith
@@ -160,12 +177,18 @@ module _ (own : ℕ → Bool) (entry : List ℕ) (S old new count : ℕ) (halves
 
     slot-is : slot ≡ slotBytes (rideAt source k)
     unfolding slot source
-    slot-is = part-same (old + slotAt k) 24 now entry (so .long) (omega (arith, halves .apart, halves .fits, halves .few)) (λ i low high. unread i low (omega (arith, halves .few)))
-        ∙ sym (part-part old (slotAt S) (slotAt k) 24 entry (omega (arith, halves .few)) (omega (arith, halves .apart, halves .fits)))
-        ∙ slot-again source source-bytes k (omega (arith, long-source, halves .few)) (all-at (slotUsed source) count k (halves .used) more)
+    slot-is = part-same (old + slotAt k) 24 now entry (so .long)
+        (omega (arith, halves .apart, halves .fits, halves .few))
+        (λ i low high. unread i low (omega (arith, halves .few)))
+        ∙ sym
+        (part-part old (slotAt S) (slotAt k) 24 entry (omega (arith, halves .few))
+        (omega (arith, halves .apart, halves .fits)))
+        ∙ slot-again source source-bytes k (omega (arith, long-source, halves .few))
+        (all-at (slotUsed source) count k (halves .used) more)
 
     slot-long : length slot ≡ 24
-    slot-long = ap length slot-is ∙ length-slot (rideAt source k) (ride-whole source source-bytes k (omega (arith, long-source, halves .few)))
+    slot-long = ap length slot-is
+        ∙ length-slot (rideAt source k) (ride-whole source source-bytes k (omega (arith, long-source, halves .few)))
 
     -- written behind those that move, then behind those that stay
     one : List ℕ
@@ -189,17 +212,21 @@ module _ (own : ℕ → Bool) (entry : List ℕ) (S old new count : ℕ) (halves
     long-two = length-edit (old + slotAt stay) slot one fits-old ∙ long-one ∙ so .long
 
     -- the slot read again is the same
-    pub parted-again : part (old + (8 + 24 * k)) 24 (edit (new + (8 + 24 * (k - stay))) (part (old + (8 + 24 * k)) 24 now) now) ≡ part (old + (8 + 24 * k)) 24 now
+    pub parted-again : part (old + (8 + 24 * k)) 24
+        (edit (new + (8 + 24 * (k - stay))) (part (old + (8 + 24 * k)) 24 now) now) ≡ part (old + (8 + 24 * k)) 24 now
     unfolding slot
-    parted-again = part-before (new + slotAt (k - stay)) slot now fits-new (old + slotAt k) 24 (omega (arith, halves .apart, halves .few))
+    parted-again = part-before (new + slotAt (k - stay)) slot now fits-new (old + slotAt k) 24
+        (omega (arith, halves .apart, halves .few))
 
     left-kept : part (old + 8) (24 * stay) two ≡ part (old + 8) (24 * stay) now
     unfolding two one
     left-kept = part-before (old + slotAt stay) slot one fits-old (old + 8) (24 * stay) (omega arith)
-        ∙ part-before (new + slotAt (k - stay)) slot now fits-new (old + 8) (24 * stay) (omega (arith, so .short, halves .apart, halves .few))
+        ∙ part-before (new + slotAt (k - stay)) slot now fits-new (old + 8) (24 * stay)
+        (omega (arith, so .short, halves .apart, halves .few))
 
     left-grown : part (old + 8) (24 * (stay + 1)) two ≡ part (old + 8) (24 * stay) now ++ slot
-    left-grown = ap (λ (n : ℕ). part (old + 8) n two) longer ∙ part-split (old + 8) (24 * stay) 24 two ∙ ap₂ _++_ left-kept at-end
+    left-grown = ap (λ (n : ℕ). part (old + 8) n two) longer ∙ part-split (old + 8) (24 * stay) 24 two
+        ∙ ap₂ _++_ left-kept at-end
       where
         longer : 24 * (stay + 1) ≡ 24 * stay + 24
         longer = omega arith
@@ -208,11 +235,14 @@ module _ (own : ℕ → Bool) (entry : List ℕ) (S old new count : ℕ) (halves
         place = omega arith
 
         at-end : part (old + 8 + 24 * stay) 24 two ≡ slot
-        at-end = ap₂ (λ (p n : ℕ). part p n two) place (sym slot-long) ∙ unfold two in (part-edit (old + slotAt stay) slot one fits-old)
+        at-end = ap₂ (λ (p n : ℕ). part p n two) place (sym slot-long) ∙ unfold two
+            in (part-edit (old + slotAt stay) slot one fits-old)
 
     right-behind : (n : ℕ) → n ≤ 24 * (k - stay) + 24 → part (new + 8) n two ≡ part (new + 8) n one
     unfolding two
-    right-behind n h = part-after (old + slotAt stay) slot one fits-old (new + 8) n (omega (arith, slot-long, so .short, halves .apart, halves .few)) (omega (arith, long-one, so .long, halves .fits, halves .few))
+    right-behind n h = part-after (old + slotAt stay) slot one fits-old (new + 8) n
+        (omega (arith, slot-long, so .short, halves .apart, halves .few))
+        (omega (arith, long-one, so .long, halves .fits, halves .few))
 
     right-before : part (new + 8) (24 * (k - stay)) one ≡ part (new + 8) (24 * (k - stay)) now
     unfolding one
@@ -229,11 +259,14 @@ module _ (own : ℕ → Bool) (entry : List ℕ) (S old new count : ℕ) (halves
         place = omega arith
 
         at-end : part (new + 8 + 24 * (k - stay)) 24 one ≡ slot
-        at-end = ap₂ (λ (p n : ℕ). part p n one) place (sym slot-long) ∙ unfold one in (part-edit (new + slotAt (k - stay)) slot now fits-new)
+        at-end = ap₂ (λ (p n : ℕ). part p n one) place (sym slot-long) ∙ unfold one
+            in (part-edit (new + slotAt (k - stay)) slot now fits-new)
 
-    untouched-more : (i : ℕ) → Apart (old + 8) (24 * (k + 1)) i → Apart (new + 8) (24 * (k + 1)) i → getD two i 0 ≡ getD entry i 0
+    untouched-more : (i : ℕ) → Apart (old + 8) (24 * (k + 1)) i → Apart (new + 8) (24 * (k + 1)) i
+        → getD two i 0 ≡ getD entry i 0
     unfolding two one
-    untouched-more i a b = edit-apart (old + slotAt stay) slot one fits-old i (apart-old i a) ∙ edit-apart (new + slotAt (k - stay)) slot now fits-new i (apart-new i b)
+    untouched-more i a b = edit-apart (old + slotAt stay) slot one fits-old i (apart-old i a)
+        ∙ edit-apart (new + slotAt (k - stay)) slot now fits-new i (apart-new i b)
         ∙ so .untouched i (fewer old i a) (fewer new i b)
       where
         apart-old : (i : ℕ) → Apart (old + 8) (24 * (k + 1)) i → Apart (old + slotAt stay) (length slot) i
@@ -246,23 +279,33 @@ module _ (own : ℕ → Bool) (entry : List ℕ) (S old new count : ℕ) (halves
         fewer at i = ⊎-elim (λ l. inl l) (λ l. inr (omega arith))
 
     next : ridesFrom source 0 (k + 1) ≡ ridesFrom source 0 k ++ (rideAt source k ∷ [])
-    next = ap (ridesFrom source 0) (add-one k) ∙ rides-append source 0 k ∙ ap (λ (n : ℕ). ridesFrom source 0 k ++ (rideAt source n ∷ [])) (zero-add k)
+    next = ap (ridesFrom source 0) (add-one k) ∙ rides-append source 0 k
+        ∙ ap (λ (n : ℕ). ridesFrom source 0 k ++ (rideAt source n ∷ [])) (zero-add k)
 
-    kept-next : (test : ℕ → Bool) → kept test (ridesFrom source 0 (k + 1)) ≡ kept test (ridesFrom source 0 k) ++ cond (test (rideAt source k .key)) (rideAt source k ∷ []) []
+    kept-next : (test : ℕ → Bool)
+        → kept test (ridesFrom source 0 (k + 1))
+        ≡ kept test (ridesFrom source 0 k) ++ cond (test (rideAt source k .key)) (rideAt source k ∷ []) []
     kept-next test = ap (kept test) next ∙ kept-append test (ridesFrom source 0 k) (rideAt source k)
 
-    kept-in : (test : ℕ → Bool) → test (rideAt source k .key) ≡ true → slotsBytes (kept test (ridesFrom source 0 (k + 1))) ≡ slotsBytes (kept test (ridesFrom source 0 k)) ++ slot
-    kept-in test h = ap slotsBytes (kept-next test) ∙ rw h (slots-append (kept test (ridesFrom source 0 k)) (rideAt source k)) ∙ ap (λ (l : List ℕ). slotsBytes (kept test (ridesFrom source 0 k)) ++ l) (sym slot-is)
+    kept-in : (test : ℕ → Bool) → test (rideAt source k .key) ≡ true
+        → slotsBytes (kept test (ridesFrom source 0 (k + 1))) ≡ slotsBytes (kept test (ridesFrom source 0 k)) ++ slot
+    kept-in test h = ap slotsBytes (kept-next test)
+        ∙ rw h (slots-append (kept test (ridesFrom source 0 k)) (rideAt source k))
+        ∙ ap (λ (l : List ℕ). slotsBytes (kept test (ridesFrom source 0 k)) ++ l) (sym slot-is)
 
-    kept-out : (test : ℕ → Bool) → test (rideAt source k .key) ≡ false → kept test (ridesFrom source 0 (k + 1)) ≡ kept test (ridesFrom source 0 k)
+    kept-out : (test : ℕ → Bool) → test (rideAt source k .key) ≡ false
+        → kept test (ridesFrom source 0 (k + 1)) ≡ kept test (ridesFrom source 0 k)
     kept-out test h = kept-next test ∙ rw h (append-nil (kept test (ridesFrom source 0 k)))
 
-    counted-in : (test : ℕ → Bool) → test (rideAt source k .key) ≡ true → length (kept test (ridesFrom source 0 (k + 1))) ≡ length (kept test (ridesFrom source 0 k)) + 1
-    counted-in test h = ap length (kept-next test) ∙ rw h (length-append (kept test (ridesFrom source 0 k)) (rideAt source k ∷ []))
+    counted-in : (test : ℕ → Bool) → test (rideAt source k .key) ≡ true
+        → length (kept test (ridesFrom source 0 (k + 1))) ≡ length (kept test (ridesFrom source 0 k)) + 1
+    counted-in test h = ap length (kept-next test)
+        ∙ rw h (length-append (kept test (ridesFrom source 0 k)) (rideAt source k ∷ []))
 
     pub parted-more : (one : ℕ) → one ≡ cond (own (keyAt (part old (slotAt S) entry) k)) 1 0
         → Parted own entry S old new count (k + 1) (stay + one)
-        (edit (old + (8 + 24 * stay)) (part (old + (8 + 24 * k)) 24 now) (edit (new + (8 + 24 * (k - stay))) (part (old + (8 + 24 * k)) 24 now) now))
+        (edit (old + (8 + 24 * stay)) (part (old + (8 + 24 * k)) 24 now)
+        (edit (new + (8 + 24 * (k - stay))) (part (old + (8 + 24 * k)) 24 now) now))
     unfolding source slot one two rideAt
     parted-more one e = go (own (keyAt source k)) refl e
       where
@@ -275,7 +318,8 @@ module _ (own : ℕ → Bool) (entry : List ℕ) (S old new count : ℕ) (halves
           untouched = untouched-more;
           stays = omega (arith, so .stays, counted-in own h);
           left = left-grown ∙ ap (λ (l : List ℕ). l ++ slot) (so .left) ∙ sym (kept-in own h);
-          right = ap (λ (n : ℕ). part (new + 8) (24 * n) two) fewer ∙ right-kept ∙ so .right ∙ ap slotsBytes (sym (kept-out (λ key. not (own key)) (ap not h)));
+          right = ap (λ (n : ℕ). part (new + 8) (24 * n) two) fewer ∙ right-kept ∙ so .right
+              ∙ ap slotsBytes (sym (kept-out (λ key. not (own key)) (ap not h)));
         })
           where
             fewer : k + 1 - (stay + 1) ≡ k - stay
@@ -286,8 +330,10 @@ module _ (own : ℕ → Bool) (entry : List ℕ) (S old new count : ℕ) (halves
           long = long-two;
           untouched = untouched-more;
           stays = omega (arith, so .stays, ap length (kept-out own h));
-          left = ap (λ (n : ℕ). part (old + 8) (24 * n) two) same ∙ left-kept ∙ so .left ∙ ap slotsBytes (sym (kept-out own h));
-          right = ap (λ (n : ℕ). part (new + 8) n two) longer ∙ right-grown ∙ ap (λ (l : List ℕ). l ++ slot) (so .right) ∙ sym (kept-in (λ key. not (own key)) (ap not h));
+          left = ap (λ (n : ℕ). part (old + 8) (24 * n) two) same ∙ left-kept ∙ so .left
+              ∙ ap slotsBytes (sym (kept-out own h));
+          right = ap (λ (n : ℕ). part (new + 8) n two) longer ∙ right-grown ∙ ap (λ (l : List ℕ). l ++ slot) (so .right)
+              ∙ sym (kept-in (λ key. not (own key)) (ap not h));
         })
           where
             same : stay + 0 ≡ stay
@@ -296,7 +342,8 @@ module _ (own : ℕ → Bool) (entry : List ℕ) (S old new count : ℕ) (halves
             longer : 24 * (k + 1 - (stay + 0)) ≡ 24 * (k - stay) + 24
             longer = omega (arith, so .short)
 
-  pub parted-done : (k stay : ℕ) (now : List ℕ) → Parted own entry S old new count k stay now → count ≤ k → Parted own entry S old new count count stay now
+  pub parted-done : (k stay : ℕ) (now : List ℕ) → Parted own entry S old new count k stay now → count ≤ k
+      → Parted own entry S old new count count stay now
   parted-done k stay now so end = subst (λ (n : ℕ). Parted own entry S old new count n stay now) all so
     where
       all : k ≡ count
@@ -333,23 +380,34 @@ module _ (own : ℕ → Bool) (entry : List ℕ) (S old new count : ℕ) (halves
 
     long-old : length old-bytes ≡ slotAt S
     unfolding old-bytes staying
-    long-old = length-encode S j staying (kept-whole own rides all-whole) (omega (arith, staying-count, so .short, halves .few))
+    long-old = length-encode S j staying (kept-whole own rides all-whole)
+        (omega (arith, staying-count, so .short, halves .few))
 
     long-new : length new-bytes ≡ slotAt S
     unfolding new-bytes moving
-    long-new = length-encode S j moving (kept-whole (λ key. not (own key)) rides all-whole) (omega (arith, moving-count, halves .few))
+    long-new = length-encode S j moving (kept-whole (λ key. not (own key)) rides all-whole)
+        (omega (arith, moving-count, halves .few))
 
-    closed-old : edit (old + slotAt stay) (replicate (24 * (S - stay)) 0) (edit old (headBytes j stay) now) ≡ edit old old-bytes now
+    closed-old : edit (old + slotAt stay) (replicate (24 * (S - stay)) 0) (edit old (headBytes j stay) now)
+        ≡ edit old old-bytes now
     unfolding old-bytes staying rides source
-    closed-old = ap (λ (n : ℕ). edit (old + slotAt n) (replicate (24 * (S - n)) 0) (edit old (headBytes j n) now)) staying-count
-        ∙ closed S j old staying now (kept-whole own rides all-whole) (omega (arith, staying-count, so .short, halves .few)) (omega (arith, so .long, halves .apart, halves .fits))
+    closed-old = ap (λ (n : ℕ). edit (old + slotAt n) (replicate (24 * (S - n)) 0) (edit old (headBytes j n) now))
+        staying-count
+        ∙ closed S j old staying now (kept-whole own rides all-whole)
+        (omega (arith, staying-count, so .short, halves .few))
+        (omega (arith, so .long, halves .apart, halves .fits))
         (ap (λ (n : ℕ). part (old + 8) (24 * n) now) (sym staying-count) ∙ so .left)
 
-    closed-new : edit (new + slotAt (count - stay)) (replicate (24 * (S - (count - stay))) 0) (edit new (headBytes j (count - stay)) (edit old old-bytes now)) ≡ edit new new-bytes (edit old old-bytes now)
+    closed-new : edit (new + slotAt (count - stay)) (replicate (24 * (S - (count - stay))) 0)
+        (edit new (headBytes j (count - stay)) (edit old old-bytes now)) ≡ edit new new-bytes (edit old old-bytes now)
     unfolding new-bytes moving rides source
-    closed-new = ap (λ (n : ℕ). edit (new + slotAt n) (replicate (24 * (S - n)) 0) (edit new (headBytes j n) (edit old old-bytes now))) moving-count
-        ∙ closed S j new moving (edit old old-bytes now) (kept-whole (λ key. not (own key)) rides all-whole) (omega (arith, moving-count, halves .few)) (omega (arith, room, so .long, halves .fits))
-        (part-after old old-bytes now fits-old (new + 8) (24 * length moving) (omega (arith, long-old, halves .apart)) (omega (arith, so .long, halves .fits, halves .few, moving-count))
+    closed-new = ap
+        (λ (n : ℕ). edit (new + slotAt n) (replicate (24 * (S - n)) 0)
+        (edit new (headBytes j n) (edit old old-bytes now))) moving-count
+        ∙ closed S j new moving (edit old old-bytes now) (kept-whole (λ key. not (own key)) rides all-whole)
+        (omega (arith, moving-count, halves .few)) (omega (arith, room, so .long, halves .fits))
+        (part-after old old-bytes now fits-old (new + 8) (24 * length moving) (omega (arith, long-old, halves .apart))
+        (omega (arith, so .long, halves .fits, halves .few, moving-count))
         ∙ ap (λ (n : ℕ). part (new + 8) (24 * n) now) (sym moving-count) ∙ so .right)
       where
         fits-old : old + length old-bytes ≤ length now
@@ -359,7 +417,8 @@ module _ (own : ℕ → Bool) (entry : List ℕ) (S old new count : ℕ) (halves
         room = length-edit old old-bytes now fits-old
 
     overwritten : edit new new-bytes (edit old old-bytes now) ≡ edit new new-bytes (edit old old-bytes entry)
-    overwritten = edit-over new new-bytes (edit old old-bytes now) (edit old old-bytes entry) (one ∙ so .long ∙ sym two) (omega (arith, long-new, two, halves .fits)) agree
+    overwritten = edit-over new new-bytes (edit old old-bytes now) (edit old old-bytes entry) (one ∙ so .long ∙ sym two)
+        (omega (arith, long-new, two, halves .fits)) agree
       where
         fits-now : old + length old-bytes ≤ length now
         fits-now = omega (arith, long-old, so .long, halves .apart, halves .fits)
@@ -376,32 +435,47 @@ module _ (own : ℕ → Bool) (entry : List ℕ) (S old new count : ℕ) (halves
         behind : (i : ℕ) → Apart new (length new-bytes) i → Apart (new + 8) (24 * count) i
         behind i = ⊎-elim (λ l. inl (omega arith)) (λ l. inr (omega (arith, long-new, halves .few)))
 
-        agree : (i : ℕ) → i < length (edit old old-bytes entry) → Apart new (length new-bytes) i → getD (edit old old-bytes now) i 0 ≡ getD (edit old old-bytes entry) i 0
-        agree i h b = by-cases (decLt i old) (λ l. outside (inl l)) (λ l. by-cases (decLt i (old + slotAt S)) (λ m. inside (omega (arith, l)) m) (λ m. outside (inr (omega (arith, long-old, m)))))
+        agree : (i : ℕ) → i < length (edit old old-bytes entry) → Apart new (length new-bytes) i
+            → getD (edit old old-bytes now) i 0 ≡ getD (edit old old-bytes entry) i 0
+        agree i h b = by-cases (decLt i old) (λ l. outside (inl l))
+            (λ l. by-cases (decLt i (old + slotAt S)) (λ m. inside (omega (arith, l)) m)
+            (λ m. outside (inr (omega (arith, long-old, m)))))
           where
-            outside : Apart old (length old-bytes) i → getD (edit old old-bytes now) i 0 ≡ getD (edit old old-bytes entry) i 0
-            outside a = edit-apart old old-bytes now fits-now i a ∙ so .untouched i (⊎-elim (λ l. inl (omega arith)) (λ l. inr (omega (arith, long-old, halves .few))) a) (behind i b)
+            outside : Apart old (length old-bytes) i
+                → getD (edit old old-bytes now) i 0 ≡ getD (edit old old-bytes entry) i 0
+            outside a = edit-apart old old-bytes now fits-now i a
+                ∙ so .untouched i (⊎-elim (λ l. inl (omega arith)) (λ l. inr (omega (arith, long-old, halves .few))) a)
+                (behind i b)
                 ∙ sym (edit-apart old old-bytes entry fits-entry i a)
 
-            inside : old ≤ i → i < old + slotAt S → getD (edit old old-bytes now) i 0 ≡ getD (edit old old-bytes entry) i 0
-            inside low high = ap (λ (n : ℕ). getD (edit old old-bytes now) n 0) place ∙ edit-in old old-bytes now fits-now (i - old) (omega (arith, long-old))
-                ∙ sym (ap (λ (n : ℕ). getD (edit old old-bytes entry) n 0) place ∙ edit-in old old-bytes entry fits-entry (i - old) (omega (arith, long-old)))
+            inside : old ≤ i → i < old + slotAt S
+                → getD (edit old old-bytes now) i 0 ≡ getD (edit old old-bytes entry) i 0
+            inside low high = ap (λ (n : ℕ). getD (edit old old-bytes now) n 0) place
+                ∙ edit-in old old-bytes now fits-now (i - old) (omega (arith, long-old))
+                ∙ sym
+                (ap (λ (n : ℕ). getD (edit old old-bytes entry) n 0) place
+                ∙ edit-in old old-bytes entry fits-entry (i - old) (omega (arith, long-old)))
               where
                 place : i ≡ old + (i - old)
                 place = omega arith
 
-    pub divided-bytes : edit (new + slotAt (count - stay)) (replicate (24 * (S - (count - stay))) 0) (edit new (headBytes j (count - stay))
+    pub divided-written : edit (new + slotAt (count - stay)) (replicate (24 * (S - (count - stay))) 0)
+        (edit new (headBytes j (count - stay))
         (edit (old + slotAt stay) (replicate (24 * (S - stay)) 0) (edit old (headBytes j stay) now)))
-        ≡ edit new (encode S j (kept (λ key. not (own key)) (ridesFrom (part old (slotAt S) entry) 0 count))) (edit old (encode S j (kept own (ridesFrom (part old (slotAt S) entry) 0 count))) entry)
+        ≡ edit new (encode S j (kept (λ key. not (own key)) (ridesFrom (part old (slotAt S) entry) 0 count)))
+        (edit old (encode S j (kept own (ridesFrom (part old (slotAt S) entry) 0 count))) entry)
     unfolding source rides staying moving old-bytes new-bytes
-    divided-bytes = ap (λ (l : List ℕ). edit (new + slotAt (count - stay)) (replicate (24 * (S - (count - stay))) 0) (edit new (headBytes j (count - stay)) l)) closed-old ∙ closed-new ∙ overwritten
+    divided-written = ap
+        (λ (l : List ℕ). edit (new + slotAt (count - stay)) (replicate (24 * (S - (count - stay))) 0)
+        (edit new (headBytes j (count - stay)) l)) closed-old ∙ closed-new ∙ overwritten
 
 -- the count read is the first region's
 pub divide-count : (entry : List ℕ) (S old n : ℕ) → n ≡ leAt 2 entry (old + 4) → n ≡ countOf (part old (slotAt S) entry)
 divide-count entry S old n e = e ∙ sym (le-part 2 entry old (slotAt S) 4 (omega arith))
 
 pub divide-rides : (own : ℕ → Bool) (entry : List ℕ) (S j old new n : ℕ) → n ≡ countOf (part old (slotAt S) entry)
-    → edit new (encode S j (kept (λ key. not (own key)) (ridesFrom (part old (slotAt S) entry) 0 n))) (edit old (encode S j (kept own (ridesFrom (part old (slotAt S) entry) 0 n))) entry)
-    ≡ edit new (encode S j (kept (λ key. not (own key)) (ridesOf (part old (slotAt S) entry)))) (edit old (encode S j (kept own (ridesOf (part old (slotAt S) entry)))) entry)
+    → edit new (encode S j (kept (λ key. not (own key)) (ridesFrom (part old (slotAt S) entry) 0 n)))
+    (edit old (encode S j (kept own (ridesFrom (part old (slotAt S) entry) 0 n))) entry)
+    ≡ halved own S j old new entry
 unfolding ridesOf
 divide-rides own entry S j old new n e = rw e refl

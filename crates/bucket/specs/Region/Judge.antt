@@ -16,11 +16,15 @@ use Rattle.address.specs.Rules.{hash, keeps}
 use Rattle.address.specs.Rules.Cases.{keeps-is}
 use Rattle.layout.specs.Bytes.{byteAt, leAt, marked, allBelow, allZero, part}
 use Rattle.layout.specs.Bytes.Tests.{all-none, all-more, and-left, and-right, and-both, and-none}
-use Rattle.bucket.specs.Region.{Ride, bucketMark, slotAt, countOf, levelOf, headFormed, slotUsed, keyAt, rideAt, ridesFrom, ridesOf, keysOf, every, distinct, headSound, soundWith}
-use Rattle.bucket.specs.Region.Rides.{keys-append, every-append, distinct-append}
+use Rattle.bucket.specs.Region.{Ride, bucketMark, slotAt, countOf, levelOf, headFormed, slotUsed, keyAt, rideAt}
+use Rattle.bucket.specs.Region.{ridesFrom, ridesOf, keysOf, every, distinct, headSound, soundWith}
+use Rattle.bucket.specs.Region.Rides.{keys-append, distinct-append}
+use Rattle.bucket.specs.Region.Every.{every-append}
 
-pub head-judged : (S j : ℕ) (region : List ℕ) (mark : Bool) (l n : ℕ) → mark ≡ marked region 0 bucketMark → l ≡ byteAt region 2 → n ≡ leAt 2 region 4
-    → (mark && eqb (byteAt region 3) 0 && eqb (byteAt region 6) 0 && eqb (byteAt region 7) 0 && eqb l j && leb n S) ≡ headSound S j region
+pub head-judged : (S j : ℕ) (region : List ℕ) (mark : Bool) (l n : ℕ) → mark ≡ marked region 0 bucketMark
+    → l ≡ byteAt region 2 → n ≡ leAt 2 region 4
+    → (mark && eqb (byteAt region 3) 0 && eqb (byteAt region 6) 0 && eqb (byteAt region 7) 0 && eqb l j && leb n S)
+    ≡ headSound S j region
 unfolding headSound headFormed
 head-judged S j region mark l n em el en = rw (em, el, en)
 
@@ -37,15 +41,18 @@ unfolding slotUsed
 used-is region k = refl
 
 -- the rides of one slot more, at the end
-pub rides-append : (region : List ℕ) (k c : ℕ) → ridesFrom region k (suc c) ≡ ridesFrom region k c ++ (rideAt region (k + c) ∷ [])
+pub rides-append : (region : List ℕ) (k c : ℕ)
+    → ridesFrom region k (suc c) ≡ ridesFrom region k c ++ (rideAt region (k + c) ∷ [])
 unfolding ridesFrom
 rides-append region k zero = ap (λ (n : ℕ). rideAt region n ∷ []) (sym (add-zero k))
-rides-append region k (suc c) = ap (λ (l : List Ride). rideAt region k ∷ l) (rides-append region (suc k) c ∙ ap (λ (n : ℕ). ridesFrom region (suc k) c ++ (rideAt region n ∷ [])) moved)
+rides-append region k (suc c) = ap (λ (l : List Ride). rideAt region k ∷ l)
+    (rides-append region (suc k) c ∙ ap (λ (n : ℕ). ridesFrom region (suc k) c ++ (rideAt region n ∷ [])) moved)
   where
     moved : suc k + c ≡ k + suc c
     moved = omega arith
 
-pub keys-more : (region : List ℕ) (k : ℕ) → keysOf (ridesFrom region 0 (k + 1)) ≡ keysOf (ridesFrom region 0 k) ++ (keyAt region k ∷ [])
+pub keys-more : (region : List ℕ) (k : ℕ)
+    → keysOf (ridesFrom region 0 (k + 1)) ≡ keysOf (ridesFrom region 0 k) ++ (keyAt region k ∷ [])
 unfolding rideAt
 keys-more region k =
     ap (λ (n : ℕ). keysOf (ridesFrom region 0 n)) (add-one k)
@@ -59,8 +66,10 @@ abbrev pub fitting : (ℕ → Bool) → List ℕ → ℕ → Bool
 fitting own region k = slotUsed region k && own (keyAt region k)
 
 module _ (own : ℕ → Bool) (region : List ℕ) where
-  pub fits-more : (k : ℕ) → allBelow (fitting own region) k ≡ true → fitting own region k ≡ true → allBelow (fitting own region) (k + 1) ≡ true
-  fits-more k so fits = all-more (fitting own region) k ∙ and-both (allBelow (fitting own region) k) (fitting own region k) so fits
+  pub fits-more : (k : ℕ) → allBelow (fitting own region) k ≡ true → fitting own region k ≡ true
+      → allBelow (fitting own region) (k + 1) ≡ true
+  fits-more k so fits = all-more (fitting own region) k
+      ∙ and-both (allBelow (fitting own region) k) (fitting own region k) so fits
 
   abbrev each : ℕ → Bool
   each n = allBelow (slotUsed region) n && every own (keysOf (ridesFrom region 0 n))
@@ -71,8 +80,10 @@ module _ (own : ℕ → Bool) (region : List ℕ) where
 
   each-more : (n : ℕ) → each (n + 1) ≡ (each n && fitting own region n)
   each-more n =
-      ap₂ _&&_ (all-more (slotUsed region) n) (ap (every own) (keys-more region n) ∙ every-append own (keysOf (ridesFrom region 0 n)) (keyAt region n))
-      ∙ go (allBelow (slotUsed region) n) (slotUsed region n) (every own (keysOf (ridesFrom region 0 n))) (own (keyAt region n))
+      ap₂ _&&_ (all-more (slotUsed region) n)
+      (ap (every own) (keys-more region n) ∙ every-append own (keysOf (ridesFrom region 0 n)) (keyAt region n))
+      ∙ go (allBelow (slotUsed region) n) (slotUsed region n) (every own (keysOf (ridesFrom region 0 n)))
+      (own (keyAt region n))
     where
       go : (a b c d : Bool) → (a && b && (c && d)) ≡ (a && c && (b && d))
       go true true c d = refl
@@ -81,7 +92,8 @@ module _ (own : ℕ → Bool) (region : List ℕ) where
       go false b c d = refl
 
   -- each slot fits if each is marked and each key belongs
-  pub fits-all : (n : ℕ) → allBelow (fitting own region) n ≡ (allBelow (slotUsed region) n && every own (keysOf (ridesFrom region 0 n)))
+  pub fits-all : (n : ℕ) → allBelow (fitting own region) n
+      ≡ (allBelow (slotUsed region) n && every own (keysOf (ridesFrom region 0 n)))
   fits-all zero = all-none (fitting own region) ∙ sym each-none
   fits-all (suc n) =
       ap (allBelow (fitting own region)) (sym (add-one n))
@@ -91,11 +103,14 @@ module _ (own : ℕ → Bool) (region : List ℕ) where
       ∙ ap each (add-one n)
 
 -- one slot by what was read of it
-pub fits-read : (N a j : ℕ) (region : List ℕ) (k : ℕ) (mark : Bool) (key h : ℕ) → mark ≡ marked region (8 + 24 * k) (76 ∷ 82 ∷ []) → h ≡ hash N j key
+pub fits-read : (N a j : ℕ) (region : List ℕ) (k : ℕ) (mark : Bool) (key h : ℕ)
+    → mark ≡ marked region (8 + 24 * k) (76 ∷ 82 ∷ []) → h ≡ hash N j key
     → (mark && eqb h a) ≡ (slotUsed region k && keeps N a j key)
-fits-read N a j region k mark key h em eh = ap₂ _&&_ (em ∙ sym (used-is region k)) (ap (λ (x : ℕ). eqb x a) eh ∙ sym (keeps-is N a j key))
+fits-read N a j region k mark key h em eh = ap₂ _&&_ (em ∙ sym (used-is region k))
+    (ap (λ (x : ℕ). eqb x a) eh ∙ sym (keeps-is N a j key))
 
-pub fits-told : (own : ℕ → Bool) (region : List ℕ) (k key : ℕ) (fits b : Bool) → fits ≡ (slotUsed region k && own key) → key ≡ keyAt region k → fits ≡ b → fitting own region k ≡ b
+pub fits-told : (own : ℕ → Bool) (region : List ℕ) (k key : ℕ) (fits b : Bool) → fits ≡ (slotUsed region k && own key)
+    → key ≡ keyAt region k → fits ≡ b → fitting own region k ≡ b
 fits-told own region k key fits b e ek eb = sym (e ∙ ap (λ (x : ℕ). slotUsed region k && own x) ek) ∙ eb
 
 -- ---- keys compared with one another
@@ -105,7 +120,8 @@ pub fresh-from : (region : List ℕ) (key k c : ℕ) → ((i : ℕ) → k ≤ i 
     → every (λ other. not (eqb other key)) (keysOf (ridesFrom region k c)) ≡ true
 unfolding ridesFrom keysOf every rideAt
 fresh-from region key k zero h = refl
-fresh-from region key k (suc c) h = and-both (not (eqb (keyAt region k) key)) _ (ap not (h k (omega arith) (omega arith)))
+fresh-from region key k (suc c) h = and-both (not (eqb (keyAt region k) key)) _
+    (ap not (h k (omega arith) (omega arith)))
     (fresh-from region key (suc k) c (λ i low high. h i (omega arith) (omega arith)))
 
 pub stands : (region : List ℕ) (key k c i : ℕ) → k ≤ i → i < k + c → keyAt region i ≡ key
@@ -121,18 +137,22 @@ stands region key k (suc c) i low high e = ⊎-elim
     equal l = omega arith
 
 -- keys that are not distinct stay so as others follow
-distinct-longer : (region : List ℕ) (k c : ℕ) → distinct (keysOf (ridesFrom region 0 k)) ≡ false → distinct (keysOf (ridesFrom region 0 (k + c))) ≡ false
+distinct-longer : (region : List ℕ) (k c : ℕ) → distinct (keysOf (ridesFrom region 0 k)) ≡ false
+    → distinct (keysOf (ridesFrom region 0 (k + c))) ≡ false
 distinct-longer region k zero h = ap (λ (n : ℕ). distinct (keysOf (ridesFrom region 0 n))) (add-zero k) ∙ h
 distinct-longer region k (suc c) h =
     ap (λ (n : ℕ). distinct (keysOf (ridesFrom region 0 n))) moved
-    ∙ ap distinct (keys-more region (k + c)) ∙ distinct-append (keysOf (ridesFrom region 0 (k + c))) (keyAt region (k + c))
+    ∙ ap distinct (keys-more region (k + c))
+    ∙ distinct-append (keysOf (ridesFrom region 0 (k + c))) (keyAt region (k + c))
     ∙ rw (distinct-longer region k c h)
   where
     moved : k + suc c ≡ k + c + 1
     moved = omega arith
 
-pub distinct-later : (region : List ℕ) (k count : ℕ) → k ≤ count → distinct (keysOf (ridesFrom region 0 k)) ≡ false → distinct (keysOf (ridesFrom region 0 count)) ≡ false
-distinct-later region k count h e = ap (λ (n : ℕ). distinct (keysOf (ridesFrom region 0 n))) whole ∙ distinct-longer region k (count - k) e
+pub distinct-later : (region : List ℕ) (k count : ℕ) → k ≤ count → distinct (keysOf (ridesFrom region 0 k)) ≡ false
+    → distinct (keysOf (ridesFrom region 0 count)) ≡ false
+distinct-later region k count h e = ap (λ (n : ℕ). distinct (keysOf (ridesFrom region 0 n))) whole
+    ∙ distinct-longer region k (count - k) e
   where
     whole : count ≡ k + (count - k)
     whole = omega arith
@@ -149,32 +169,41 @@ module _ (S j : ℕ) (own : ℕ → Bool) (region : List ℕ) where
   head-count h = leb-true _ _ (and-right (headFormed region && eqb (levelOf region) j) _ h)
 
   pub unsound-slots : headSound S j region ≡ true
-      → (allBelow (slotUsed region) (countOf region) && every own (keysOf (ridesOf region)) && distinct (keysOf (ridesOf region))) ≡ false → soundWith S j own region ≡ false
+      → (allBelow (slotUsed region) (countOf region) && every own (keysOf (ridesOf region))
+      && distinct (keysOf (ridesOf region))) ≡ false → soundWith S j own region ≡ false
   unfolding soundWith
-  unsound-slots h l = rw h (go (allBelow (slotUsed region) (countOf region)) (every own (keysOf (ridesOf region))) (distinct (keysOf (ridesOf region))) l
+  unsound-slots h l = rw h
+      (go (allBelow (slotUsed region) (countOf region)) (every own (keysOf (ridesOf region)))
+      (distinct (keysOf (ridesOf region))) l
       (allZero (drop (slotAt (countOf region)) region)))
     where
-      go : (used belong single : Bool) → (used && belong && single) ≡ false → (rest : Bool) → (used && rest && belong && single) ≡ false
+      go : (used belong single : Bool) → (used && belong && single) ≡ false → (rest : Bool)
+          → (used && rest && belong && single) ≡ false
       go true belong single l true = l
       go true belong single l false = refl
       go false belong single l rest = refl
 
   pub sound-slots : headSound S j region ≡ true
-      → (allBelow (slotUsed region) (countOf region) && every own (keysOf (ridesOf region)) && distinct (keysOf (ridesOf region))) ≡ true
+      → (allBelow (slotUsed region) (countOf region) && every own (keysOf (ridesOf region))
+      && distinct (keysOf (ridesOf region))) ≡ true
       → soundWith S j own region ≡ allZero (drop (slotAt (countOf region)) region)
   unfolding soundWith
   sound-slots h l = rw (
     h,
     and-left (allBelow (slotUsed region) (countOf region)) (every own (keysOf (ridesOf region))) both,
     and-right (allBelow (slotUsed region) (countOf region)) (every own (keysOf (ridesOf region))) both,
-    and-right (allBelow (slotUsed region) (countOf region) && every own (keysOf (ridesOf region))) (distinct (keysOf (ridesOf region))) l,
-  ) (and-true (allZero (drop (slotAt (countOf region)) region) && true) ∙ and-true (allZero (drop (slotAt (countOf region)) region)))
+    and-right (allBelow (slotUsed region) (countOf region) && every own (keysOf (ridesOf region)))
+        (distinct (keysOf (ridesOf region))) l,
+  ) (and-true (allZero (drop (slotAt (countOf region)) region) && true)
+      ∙ and-true (allZero (drop (slotAt (countOf region)) region)))
     where
       both : (allBelow (slotUsed region) (countOf region) && every own (keysOf (ridesOf region))) ≡ true
-      both = and-left (allBelow (slotUsed region) (countOf region) && every own (keysOf (ridesOf region))) (distinct (keysOf (ridesOf region))) l
+      both = and-left (allBelow (slotUsed region) (countOf region) && every own (keysOf (ridesOf region)))
+          (distinct (keysOf (ridesOf region))) l
 
 -- the judging function's way, test by test
-module _ (S j : ℕ) (own : ℕ → Bool) (region : List ℕ) (head : Bool) (n : ℕ) (eh : head ≡ headSound S j region) (en : n ≡ leAt 2 region 4) where
+module _ (S j : ℕ) (own : ℕ → Bool) (region : List ℕ) (head : Bool) (n : ℕ) (eh : head ≡ headSound S j region)
+    (en : n ≡ leAt 2 region 4) where
   pub judged-head : not head ≡ true → false ≡ soundWith S j own region
   judged-head h = sym (unsound-head S j own region (sym eh ∙ not-true head h))
 
@@ -185,14 +214,27 @@ module _ (S j : ℕ) (own : ℕ → Bool) (region : List ℕ) (head : Bool) (n :
     pub judged-few : n ≤ S
     judged-few = omega (arith, head-count S j own region headed)
 
-    module _ (slots : Bool) (es : slots ≡ (allBelow (slotUsed region) n && every own (keysOf (ridesFrom region 0 n)) && distinct (keysOf (ridesFrom region 0 n)))) where
-      counted : slots ≡ (allBelow (slotUsed region) (countOf region) && every own (keysOf (ridesOf region)) && distinct (keysOf (ridesOf region)))
+    module _ (slots : Bool)
+        (es : slots
+        ≡ (allBelow (slotUsed region) n && every own (keysOf (ridesFrom region 0 n))
+        && distinct (keysOf (ridesFrom region 0 n)))) where
+      counted : slots
+          ≡ (allBelow (slotUsed region) (countOf region) && every own (keysOf (ridesOf region))
+          && distinct (keysOf (ridesOf region)))
       unfolding ridesOf
-      counted = es ∙ ap (λ (m : ℕ). allBelow (slotUsed region) m && every own (keysOf (ridesFrom region 0 m)) && distinct (keysOf (ridesFrom region 0 m))) en
+      counted = es
+          ∙ ap (λ (m : ℕ). allBelow (slotUsed region) m && every own (keysOf (ridesFrom region 0 m))
+          && distinct (keysOf (ridesFrom region 0 m))) en
 
       pub judged-slots : not slots ≡ true → false ≡ soundWith S j own region
       judged-slots h = sym (unsound-slots S j own region headed (sym counted ∙ not-true slots h))
 
-      pub judged-rest : not slots ≡ false → (rest : Bool) → rest ≡ allZero (take (length region - (8 + 24 * n)) (drop (8 + 24 * n) region)) → rest ≡ soundWith S j own region
-      judged-rest fine rest er = er ∙ ap allZero (take-all (length region - (8 + 24 * n)) (drop (8 + 24 * n) region) (omega (arith, length-drop (8 + 24 * n) region)))
-          ∙ ap (λ (m : ℕ). allZero (drop (8 + 24 * m) region)) en ∙ sym (sound-slots S j own region headed (sym counted ∙ not-false slots fine))
+      pub judged-rest : not slots ≡ false → (rest : Bool)
+          → rest ≡ allZero (take (length region - (8 + 24 * n)) (drop (8 + 24 * n) region))
+          → rest ≡ soundWith S j own region
+      judged-rest fine rest er = er
+          ∙ ap allZero
+          (take-all (length region - (8 + 24 * n)) (drop (8 + 24 * n) region)
+          (omega (arith, length-drop (8 + 24 * n) region)))
+          ∙ ap (λ (m : ℕ). allZero (drop (8 + 24 * m) region)) en
+          ∙ sym (sound-slots S j own region headed (sym counted ∙ not-false slots fine))

@@ -1,5 +1,5 @@
--- A sound region is the encoding of its level and its rides, and nothing else is; an encoding is sound exactly if its keys belong and are distinct.
--- The one way each part of the bytes is read off, the other way it is written again.
+-- A sound region is the encoding of its level and its rides, and nothing else is; an encoding is sound exactly if its
+-- keys belong and are distinct. The one way each part of the bytes is read off, the other way it is written again.
 use Prim.Native.Nat.{ℕ, zero, suc, _+_, _*_, _-_, _≤_, _<_}
 use mathlib.Core.Path.{_≡_, refl, sym, ap, ap₂, _∙_}
 use mathlib.Core.Bool.{Bool, true, _&&_}
@@ -19,9 +19,13 @@ use Rattle.layout.specs.Bytes.{Bytes, marked, allBelow, allZero, part}
 use Rattle.layout.specs.Bytes.Tests.{and-left, and-right, all-at, all-of, zero-replicate, replicate-zero}
 use Rattle.layout.specs.Bytes.Edit.{part-split, part-two, part-front, drop-split, length-part, part-bytes}
 use Rattle.layout.specs.Bytes.Numbers.{le-again, le-lt}
-use Rattle.bucket.specs.Region.{Ride, Whole, bucketMark, slotMark, slotAt, countOf, levelOf, headFormed, slotUsed, keyAt, rideAt, ridesFrom, ridesOf, keysOf, every, distinct, headSound, soundWith, bucketSound, headBytes, slotBytes, slotsBytes, layOut, encode}
-use Rattle.bucket.specs.Region.Rides.{AllWhole, every-same}
-use Rattle.bucket.specs.Region.Encode.{rides-back, used-back, slots-here, rest-zero, count-back, level-back, head-back}
+use Rattle.bucket.specs.Region.{Ride, Whole, bucketMark, slotMark, slotAt, countOf, levelOf, headFormed, slotUsed}
+use Rattle.bucket.specs.Region.{keyAt, rideAt, ridesFrom, ridesOf, keysOf, every, distinct, headSound, soundWith}
+use Rattle.bucket.specs.Region.{bucketSound, headBytes, slotBytes, slotsBytes, layOut, encode}
+use Rattle.bucket.specs.Region.Rides.{AllWhole}
+use Rattle.bucket.specs.Region.Every.{every-same}
+use Rattle.bucket.specs.Region.Encode.{rides-back, used-back, slots-here, rest-zero, count-back, level-back}
+use Rattle.bucket.specs.Region.Encode.{head-back}
 
 -- ---- an encoding, read
 
@@ -33,9 +37,11 @@ module _ (S j : ℕ) (rides : List Ride) (whole : AllWhole rides) (room : length
   pub rides-encode : ridesOf (encode S j rides) ≡ rides
   unfolding ridesOf encode
   rides-encode = ap (ridesFrom (layOut S j (length rides) rides) 0) count-encode
-      ∙ rides-back rides whole (layOut S j (length rides) rides) 0 (replicate (24 * (S - length rides)) 0) (slots-here S j (length rides) rides whole)
+      ∙ rides-back rides whole (layOut S j (length rides) rides) 0 (replicate (24 * (S - length rides)) 0)
+      (slots-here S j (length rides) rides whole)
 
-  pub encode-sound : (own : ℕ → Bool) → soundWith S j own (encode S j rides) ≡ (every own (keysOf rides) && distinct (keysOf rides))
+  pub encode-sound : (own : ℕ → Bool)
+      → soundWith S j own (encode S j rides) ≡ (every own (keysOf rides) && distinct (keysOf rides))
   unfolding soundWith headSound encode
   encode-sound own = rw (formed, at-level, few, used, rest, rides-encode)
     where
@@ -49,14 +55,17 @@ module _ (S j : ℕ) (rides : List Ride) (whole : AllWhole rides) (room : length
       few = le-leb (countOf (encode S j rides)) S (omega (arith, count-encode))
 
       used : allBelow (slotUsed (encode S j rides)) (countOf (encode S j rides)) ≡ true
-      used = all-of (slotUsed (encode S j rides)) (countOf (encode S j rides)) (λ k h. each k (omega (arith, count-encode)))
+      used = all-of (slotUsed (encode S j rides)) (countOf (encode S j rides))
+          (λ k h. each k (omega (arith, count-encode)))
         where
           each : (k : ℕ) → k < length rides → slotUsed (encode S j rides) k ≡ true
           each k h = ap (slotUsed (encode S j rides)) (sym (zero-add k))
-              ∙ (used-back rides whole (layOut S j (length rides) rides) 0 (replicate (24 * (S - length rides)) 0) (slots-here S j (length rides) rides whole) k h)
+              ∙ (used-back rides whole (layOut S j (length rides) rides) 0 (replicate (24 * (S - length rides)) 0)
+              (slots-here S j (length rides) rides whole) k h)
 
       rest : allZero (drop (slotAt (countOf (encode S j rides))) (encode S j rides)) ≡ true
-      rest = ap allZero (ap (λ (n : ℕ). drop (slotAt n) (encode S j rides)) count-encode ∙ (rest-zero S j (length rides) rides whole))
+      rest = ap allZero
+          (ap (λ (n : ℕ). drop (slotAt n) (encode S j rides)) count-encode ∙ (rest-zero S j (length rides) rides whole))
           ∙ replicate-zero (24 * (S - length rides))
 
 -- ---- a sound region, written again
@@ -85,8 +94,12 @@ parts S j own region h =
       few = leb-true _ _ (and-right (headFormed region && eqb (levelOf region) j) _ h1);
       used = and-right (headSound S j region) _ h2;
       rest = and-right (headSound S j region && allBelow (slotUsed region) (countOf region)) _ h3;
-      belong = and-right (headSound S j region && allBelow (slotUsed region) (countOf region) && allZero (drop (slotAt (countOf region)) region)) _ h4;
-      single = and-right (headSound S j region && allBelow (slotUsed region) (countOf region) && allZero (drop (slotAt (countOf region)) region)
+      belong = and-right
+          (headSound S j region && allBelow (slotUsed region) (countOf region)
+          && allZero (drop (slotAt (countOf region)) region)) _ h4;
+      single = and-right
+          (headSound S j region && allBelow (slotUsed region) (countOf region)
+          && allZero (drop (slotAt (countOf region)) region)
           && every own (keysOf (ridesOf region))) _ h;
     }
 
@@ -118,16 +131,19 @@ module _ (region : List ℕ) (bytes : Bytes region) where
   rides-whole k zero fits = tt
   rides-whole k (suc c) fits = (ride-whole k (omega arith), rides-whole (suc k) c (omega arith))
 
-  pub slot-again : (k : ℕ) → slotAt k + 24 ≤ length region → slotUsed region k ≡ true → part (slotAt k) 24 region ≡ slotBytes (rideAt region k)
+  pub slot-again : (k : ℕ) → slotAt k + 24 ≤ length region → slotUsed region k ≡ true
+      → part (slotAt k) 24 region ≡ slotBytes (rideAt region k)
   unfolding slotBytes rideAt keyAt
   slot-again k fits used =
       part-split (slotAt k) 2 22 region
       ∙ ap₂ _++_ mark
       (part-split (slotAt k + 2) 8 14 region
-      ∙ ap₂ _++_ (sym (le-again 8 region (slotAt k + 2) bytes (omega arith))) (ap (λ (n : ℕ). part n 14 region) (add-assoc (slotAt k) 2 8)))
+      ∙ ap₂ _++_ (sym (le-again 8 region (slotAt k + 2) bytes (omega arith)))
+      (ap (λ (n : ℕ). part n 14 region) (add-assoc (slotAt k) 2 8)))
     where
       mark : part (slotAt k) 2 region ≡ slotMark
-      mark = part-two (slotAt k) region (omega arith) ∙ ap₂ (λ (x y : ℕ). x ∷ y ∷ []) (mark-first region k used) (mark-second region k used)
+      mark = part-two (slotAt k) region (omega arith)
+          ∙ ap₂ (λ (x y : ℕ). x ∷ y ∷ []) (mark-first region k used) (mark-second region k used)
 
 -- the bytes of a well formed head
 record HeadParts (region : List ℕ) : Type 0 where
@@ -148,19 +164,26 @@ head-parts region h =
       second = eqb-true _ _ (and-right (eqb (getD region 0 0) 76) _ h1);
       third = eqb-true _ _ (and-right (marked region 0 bucketMark) _ h2);
       sixth = eqb-true _ _ (and-right (marked region 0 bucketMark && eqb (getD region 3 0) 0) _ h3);
-      seventh = eqb-true _ _ (and-right (marked region 0 bucketMark && eqb (getD region 3 0) 0 && eqb (getD region 6 0) 0) _ h);
+      seventh = eqb-true _ _
+          (and-right (marked region 0 bucketMark && eqb (getD region 3 0) 0 && eqb (getD region 6 0) 0) _ h);
     }
 
-module _ (S j : ℕ) (own : ℕ → Bool) (region : List ℕ) (bytes : Bytes region) (long : length region ≡ slotAt S) (sound : Parts S j own region) where
-  slots-again : (k c : ℕ) → k + c ≤ countOf region → drop (slotAt k) region ≡ slotsBytes (ridesFrom region k c) ++ drop (slotAt (k + c)) region
+module _ (S j : ℕ) (own : ℕ → Bool) (region : List ℕ) (bytes : Bytes region) (long : length region ≡ slotAt S)
+    (sound : Parts S j own region) where
+  slots-again : (k c : ℕ) → k + c ≤ countOf region
+      → drop (slotAt k) region ≡ slotsBytes (ridesFrom region k c) ++ drop (slotAt (k + c)) region
   unfolding ridesFrom slotsBytes
   slots-again k zero h = ap (λ (n : ℕ). drop (slotAt n) region) (sym (add-zero k))
   slots-again k (suc c) h =
       drop-split (slotAt k) 24 region
-      ∙ ap₂ _++_ (slot-again region bytes k (omega (arith, sound .few)) (all-at (slotUsed region) (countOf region) k (sound .used) (omega arith)))
+      ∙ ap₂ _++_
+      (slot-again region bytes k (omega (arith, sound .few))
+      (all-at (slotUsed region) (countOf region) k (sound .used) (omega arith)))
       (ap (λ (n : ℕ). drop n region) next ∙ slots-again (suc k) c (omega arith)
       ∙ ap (λ (n : ℕ). slotsBytes (ridesFrom region (suc k) c) ++ drop (slotAt n) region) moved)
-      ∙ sym (append-assoc (slotBytes (rideAt region k)) (slotsBytes (ridesFrom region (suc k) c)) (drop (slotAt (k + suc c)) region))
+      ∙ sym
+      (append-assoc (slotBytes (rideAt region k)) (slotsBytes (ridesFrom region (suc k) c))
+      (drop (slotAt (k + suc c)) region))
     where
       next : slotAt k + 24 ≡ slotAt (suc k)
       next = omega arith
@@ -212,7 +235,8 @@ pub bucket-judged : (N : ℕ) → 0 < N → (s : Image) → Formed N s → (S a 
     → bucketSound N s S a region ≡ soundWith S (level N s a) (keeps N a (level N s a)) region
 unfolding bucketSound soundWith
 bucket-judged N positive s formed S a exists region =
-    ap (λ (b : Bool). headSound S (level N s a) region && allBelow (slotUsed region) (countOf region) && allZero (drop (slotAt (countOf region)) region)
+    ap (λ (b : Bool). headSound S (level N s a) region && allBelow (slotUsed region) (countOf region)
+    && allZero (drop (slotAt (countOf region)) region)
     && b && distinct (keysOf (ridesOf region)))
     (every-same (λ key. eqb (address N s key) a) (keeps N a (level N s a)) same (keysOf (ridesOf region)))
   where
@@ -229,11 +253,13 @@ pub bucket-parts : (N : ℕ) (s : Image) (S a : ℕ) (region : List ℕ) → buc
 unfolding bucketSound
 bucket-parts N s S a region h = parts S (level N s a) (λ key. eqb (address N s key) a) region h
 
-pub bucket-few : (N : ℕ) (s : Image) (S a : ℕ) (region : List ℕ) → bucketSound N s S a region ≡ true → countOf region ≤ S
+pub bucket-few : (N : ℕ) (s : Image) (S a : ℕ) (region : List ℕ) → bucketSound N s S a region ≡ true
+    → countOf region ≤ S
 bucket-few N s S a region h = bucket-parts N s S a region h .few
 
 -- an empty bucket is sound at its level
-pub empty-sound : (N : ℕ) (s : Image) (S a j : ℕ) → S < 65536 → level N s a ≡ j → bucketSound N s S a (encode S j []) ≡ true
+pub empty-sound : (N : ℕ) (s : Image) (S a j : ℕ) → S < 65536 → level N s a ≡ j
+    → bucketSound N s S a (encode S j []) ≡ true
 unfolding bucketSound keysOf every distinct
 empty-sound N s S a j small e = ap (λ (k : ℕ). soundWith S k (λ key. eqb (address N s key) a) (encode S j [])) e
     ∙ encode-sound S j [] tt (omega arith) small (λ key. eqb (address N s key) a)

@@ -11,11 +11,13 @@ use Rattle.bucket.specs.Region.{slotMark, slotBytes}
 
 -- a slot: mark, key and payload, one behind the other
 pub put-slot : (at key : ℕ) (payload region : List ℕ) → length payload ≡ 14 → at + 24 ≤ length region
-    → edit (at + 10) payload (edit (at + 2) (leBytes 8 key) (edit at slotMark region)) ≡ edit at (slotBytes (record { key = key; payload = payload })) region
+    → edit (at + 10) payload (edit (at + 2) (leBytes 8 key) (edit at slotMark region))
+    ≡ edit at (slotBytes (record { key = key; payload = payload })) region
 unfolding slotBytes
 put-slot at key payload region long fits =
     ap (λ (n : ℕ). edit n payload (edit (at + 2) (leBytes 8 key) (edit at slotMark region))) behind
-    ∙ ap (edit (at + length (slotMark ++ leBytes 8 key)) payload) (edit-next at slotMark (leBytes 8 key) region (omega (arith, length-leBytes 8 key)))
+    ∙ ap (edit (at + length (slotMark ++ leBytes 8 key)) payload)
+    (edit-next at slotMark (leBytes 8 key) region (omega (arith, length-leBytes 8 key)))
     ∙ edit-next at (slotMark ++ leBytes 8 key) payload region (omega (arith, both))
   where
     both : length (slotMark ++ leBytes 8 key) ≡ 10
@@ -26,9 +28,13 @@ put-slot at key payload region long fits =
 
 -- 24 bytes, read as three numbers and written one behind the other
 pub copied : (from to : ℕ) (bytes : List ℕ) → Bytes bytes → from + 24 ≤ length bytes → to + 24 ≤ length bytes
-    → edit (to + 16) (leBytes 8 (leAt 8 bytes (from + 16))) (edit (to + 8) (leBytes 8 (leAt 8 bytes (from + 8))) (edit to (leBytes 8 (leAt 8 bytes from)) bytes)) ≡ edit to (part from 24 bytes) bytes
+    → edit (to + 16) (leBytes 8 (leAt 8 bytes (from + 16)))
+    (edit (to + 8) (leBytes 8 (leAt 8 bytes (from + 8))) (edit to (leBytes 8 (leAt 8 bytes from)) bytes))
+    ≡ edit to (part from 24 bytes) bytes
 copied from to bytes each fits room =
-    ap₂ (λ (p : ℕ) (l : List ℕ). edit p z l) second-place (ap (λ (p : ℕ). edit p y (edit to x bytes)) first-place ∙ edit-next to x y bytes (omega (arith, long from, long (from + 8))))
+    ap₂ (λ (p : ℕ) (l : List ℕ). edit p z l) second-place
+    (ap (λ (p : ℕ). edit p y (edit to x bytes)) first-place
+    ∙ edit-next to x y bytes (omega (arith, long from, long (from + 8))))
     ∙ edit-next to (x ++ y) z bytes (omega (arith, both, long (from + 16)))
     ∙ ap (λ (l : List ℕ). edit to l bytes) whole
   where
@@ -54,5 +60,7 @@ copied from to bytes each fits room =
     second-place = omega (arith, both)
 
     whole : x ++ y ++ z ≡ part from 24 bytes
-    whole = ap₂ (λ (l r : List ℕ). l ++ r) (ap₂ (λ (l r : List ℕ). l ++ r) (le-again 8 bytes from each (omega arith)) (le-again 8 bytes (from + 8) each (omega arith)) ∙ sym (part-split from 8 8 bytes))
+    whole = ap₂ (λ (l r : List ℕ). l ++ r)
+        (ap₂ (λ (l r : List ℕ). l ++ r) (le-again 8 bytes from each (omega arith))
+        (le-again 8 bytes (from + 8) each (omega arith)) ∙ sym (part-split from 8 8 bytes))
         (le-again 8 bytes (from + 16) each (omega arith)) ∙ sym (part-split from 16 8 bytes)

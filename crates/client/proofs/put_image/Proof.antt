@@ -42,8 +42,11 @@ returns : tie.Need-returns
 returns c =
     let a = c .before .before .before .before .before .before .before .before .before .before .before .args in
     c .before .before .put2 .ensures
-    ∙ ap (edit (8 * a .client + 2) (a .image .level ∷ 0 ∷ a .image .pointer % 256 ∷ a .image .pointer / 256 % 256 ∷ 0 ∷ 0 ∷ [])) (c .before .before .before .before .before .before .before .put .ensures)
-    ∙ image-written (a .table .now) (a .client) (a .image) (c .before .before .before .before .before .before .before .before .before .before .before .pre .0)
+    ∙ ap (edit (8 * a .client + 2)
+    (a .image .level ∷ 0 ∷ a .image .pointer % 256 ∷ a .image .pointer / 256 % 256 ∷ 0 ∷ 0 ∷ []))
+    (c .before .before .before .before .before .before .before .put .ensures)
+    ∙ image-written (a .table .now) (a .client) (a .image)
+    (c .before .before .before .before .before .before .before .before .before .before .before .pre .0)
 
 pub put-image-spec : {M : Type 1} → statement M
 put-image-spec =

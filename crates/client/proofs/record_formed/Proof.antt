@@ -31,7 +31,8 @@ shared-slice-read-result-3 c = search needs
 returns : tie.Need-returns
 returns c =
     let a = c .before .before .before .before .before .before .args in
-    record-judged (a .table .now) (a .client) (c .before .before .before .has-mark .result) (c .before .before .before .has-mark .ensures)
+    record-judged (a .table .now) (a .client) (c .before .before .before .has-mark .result)
+    (c .before .before .before .has-mark .ensures)
 
 pub record-formed-spec : {M : Type 1} → statement M
 record-formed-spec =

@@ -9,7 +9,7 @@ use native.Mathlib.Omega.{arith}
 use borrow.Author.Tests.{lt-ltb, le-ltb, le-leb, lt-leb, ltb-true, leb-true, eq-eqb, ne-eqb}
 use lib.Dec.{leb, ltb, eqb}
 use lib.ListN.{length}
-use Rattle.address.specs.Limits.{firstBuckets, mostLevel}
+use Rattle.address.specs.Limits.{firstBuckets, mostLevel, mostTable}
 use Rattle.address.specs.declared.Image.{Image}
 use Rattle.address.specs.Rules.{«at», Formed, span}
 use Rattle.layout.specs.Bytes.{byteAt, leAt, leBytes, marked, edit}
@@ -17,7 +17,8 @@ use Rattle.layout.specs.Bytes.Tests.{and-left, and-right}
 use Rattle.layout.specs.Bytes.Edit.{edit-next}
 use Rattle.layout.specs.Bytes.Numbers.{leBytes-two}
 use Rattle.layout.specs.Replies.{Numbers, reply, reply-none, reply-here, reply-past, reply-else}
-use Rattle.client.specs.Table.{clientMark, lengthSound, exists, imageOf, recordFormed, imageFormed, recordSound, tableRefusals, imageBytes, withImage, Joined, join}
+use Rattle.client.specs.Table.{clientMark, lengthSound, exists, imageOf, recordFormed, imageFormed, recordSound}
+use Rattle.client.specs.Table.{tableRefusals, imageBytes, withImage, Joined, join}
 
 module _ (table : List ℕ) (client : ℕ) where
   -- 2, 3, or neither
@@ -31,24 +32,31 @@ module _ (table : List ℕ) (client : ℕ) where
 
   pub not-refused : lengthSound table ≡ true → client < length table / 8 → reply (tableRefusals table client) 0 ≡ 0
   unfolding tableRefusals exists
-  not-refused h l = reply-past 2 _ _ 0 (ap not h) ∙ reply-past 3 _ _ 0 (ap not (lt-ltb client (length table / 8) l)) ∙ reply-none 0
+  not-refused h l = reply-past 2 _ _ 0 (ap not h) ∙ reply-past 3 _ _ 0 (ap not (lt-ltb client (length table / 8) l))
+      ∙ reply-none 0
 
   -- its numbers are 2 and 3
   pub table-numbers : (P : ℕ → Type 0) → P 2 → P 3 → Numbers P (tableRefusals table client)
   unfolding tableRefusals
   table-numbers P two three = (two, (three, tt))
 
-  decided : (done : ℕ) → reply (tableRefusals table client) done ≡ cond (eqb (reply (tableRefusals table client) 0) 0) done (reply (tableRefusals table client) 0)
-  decided = reply-else (tableRefusals table client) (table-numbers (λ n. n ≡ 0 → ⊥) (λ e. omega (arith, e)) (λ e. omega (arith, e)))
+  decided : (done : ℕ) → reply (tableRefusals table client) done
+      ≡ cond (eqb (reply (tableRefusals table client) 0) 0) done (reply (tableRefusals table client) 0)
+  decided = reply-else (tableRefusals table client)
+      (table-numbers (λ n. n ≡ 0 → ⊥) (λ e. omega (arith, e)) (λ e. omega (arith, e)))
 
   -- a table that is refused is refused whatever comes after, and one that is not passes it on
-  pub table-refused : (r : ℕ) → reply (tableRefusals table client) 0 ≡ r → (r ≡ 0 → ⊥) → (done : ℕ) → reply (tableRefusals table client) done ≡ r
-  table-refused r e some done = decided done ∙ ap (λ (n : ℕ). cond (eqb n 0) done n) e ∙ ap (λ (b : Bool). cond b done r) (ne-eqb r 0 some)
+  pub table-refused : (r : ℕ) → reply (tableRefusals table client) 0 ≡ r → (r ≡ 0 → ⊥) → (done : ℕ)
+      → reply (tableRefusals table client) done ≡ r
+  table-refused r e some done = decided done ∙ ap (λ (n : ℕ). cond (eqb n 0) done n) e
+      ∙ ap (λ (b : Bool). cond b done r) (ne-eqb r 0 some)
 
-  pub table-passes : reply (tableRefusals table client) 0 ≡ 0 → (done : ℕ) → reply (tableRefusals table client) done ≡ done
+  pub table-passes : reply (tableRefusals table client) 0 ≡ 0 → (done : ℕ)
+      → reply (tableRefusals table client) done ≡ done
   table-passes e done = decided done ∙ ap (λ (n : ℕ). cond (eqb n 0) done n) e
 
-  pub length-flag : (flag : Bool) → flag ≡ (ltb 0 (length table) && leb (length table) 2048 && eqb (length table % 8) 0) → flag ≡ lengthSound table
+  pub length-flag : (flag : Bool) → flag ≡ (ltb 0 (length table) && leb (length table) mostTable && eqb (length table % 8) 0)
+      → flag ≡ lengthSound table
   unfolding lengthSound
   length-flag flag e = e
 
@@ -58,18 +66,22 @@ module _ (table : List ℕ) (client : ℕ) where
     where
       go : (flag : Bool) → lengthSound table ≡ flag → 8 * client + 8 ≤ length table
       go false e = absurd (omega (arith, refused-length e))
-      go true e = by-cases (decLt client (length table / 8)) (λ l. omega arith) (λ l. absurd (omega (arith, refused-client e (omega arith))))
+      go true e = by-cases (decLt client (length table / 8)) (λ l. omega arith)
+          (λ l. absurd (omega (arith, refused-client e (omega arith))))
 
   pub record-judged : (mark : Bool) → mark ≡ marked table (8 * client) clientMark
-      → (mark && eqb (byteAt table (8 * client + 3)) 0 && eqb (byteAt table (8 * client + 6)) 0 && eqb (byteAt table (8 * client + 7)) 0) ≡ recordFormed table client
+      → (mark && eqb (byteAt table (8 * client + 3)) 0 && eqb (byteAt table (8 * client + 6)) 0
+      && eqb (byteAt table (8 * client + 7)) 0) ≡ recordFormed table client
   unfolding recordFormed
   record-judged mark e = rw e
 
-  pub image-read : (l p : ℕ) → l ≡ byteAt table (8 * client + 2) → p ≡ leAt 2 table (8 * client + 4) → «at» l p ≡ imageOf table client
+  pub image-read : (l p : ℕ) → l ≡ byteAt table (8 * client + 2) → p ≡ leAt 2 table (8 * client + 4)
+      → «at» l p ≡ imageOf table client
   unfolding imageOf
   image-read l p el ep = λ i. record { level = el i; pointer = ep i }
 
-  pub record-both : (formed ranged : Bool) (image : Image) → formed ≡ recordFormed table client → ranged ≡ imageFormed image → image ≡ imageOf table client
+  pub record-both : (formed ranged : Bool) (image : Image) → formed ≡ recordFormed table client
+      → ranged ≡ imageFormed image → image ≡ imageOf table client
       → (formed && ranged) ≡ recordSound table client
   unfolding recordSound
   record-both formed ranged image ef er ei = ap₂ _&&_ ef (er ∙ ap imageFormed ei)
@@ -79,39 +91,61 @@ pub image-high : (image : Image) → mostLevel < image .level → imageFormed im
 unfolding imageFormed
 image-high image h = rw (lt-leb (image .level) mostLevel h)
 
-pub image-low : (image : Image) → image .level ≤ mostLevel → imageFormed image ≡ ltb (image .pointer) (span firstBuckets (image .level))
+pub image-low : (image : Image) → image .level ≤ mostLevel
+    → imageFormed image ≡ ltb (image .pointer) (span firstBuckets (image .level))
 unfolding imageFormed
 image-low image h = rw (le-leb (image .level) mostLevel h)
 
 -- a sound record's image
-pub record-image : (table : List ℕ) (client : ℕ) → recordSound table client ≡ true → (imageOf table client .level ≤ mostLevel) × Formed firstBuckets (imageOf table client)
+pub record-image : (table : List ℕ) (client : ℕ) → recordSound table client ≡ true
+    → (imageOf table client .level ≤ mostLevel) × Formed firstBuckets (imageOf table client)
 unfolding recordSound imageFormed
 record-image table client h =
-    let formed = and-right (recordFormed table client) (leb (imageOf table client .level) mostLevel && ltb (imageOf table client .pointer) (span firstBuckets (imageOf table client .level))) h in (
+    let formed = and-right (recordFormed table client)
+    (leb (imageOf table client .level) mostLevel
+    && ltb (imageOf table client .pointer) (span firstBuckets (imageOf table client .level))) h in (
       leb-true (imageOf table client .level) mostLevel (and-left _ _ formed),
-      ltb-true (imageOf table client .pointer) (span firstBuckets (imageOf table client .level)) (and-right (leb (imageOf table client .level) mostLevel) _ formed),
+      ltb-true (imageOf table client .pointer) (span firstBuckets (imageOf table client .level))
+          (and-right (leb (imageOf table client .level) mostLevel) _ formed),
     )
 
 -- an image is written as its mark and its figures
 pub image-written : (table : List ℕ) (client : ℕ) (image : Image) → 8 * client + 8 ≤ length table
-    → edit (8 * client + 2) (image .level ∷ 0 ∷ image .pointer % 256 ∷ image .pointer / 256 % 256 ∷ 0 ∷ 0 ∷ []) (edit (8 * client) clientMark table)
+    → edit (8 * client + 2) (image .level ∷ 0 ∷ image .pointer % 256 ∷ image .pointer / 256 % 256 ∷ 0 ∷ 0 ∷ [])
+    (edit (8 * client) clientMark table)
     ≡ withImage table client image
 unfolding withImage imageBytes
-image-written table client image fits = edit-next (8 * client) clientMark _ table (omega arith) ∙ ap (λ (l : List ℕ). edit (8 * client) l table) bytes
+image-written table client image fits = edit-next (8 * client) clientMark _ table (omega arith)
+    ∙ ap (λ (l : List ℕ). edit (8 * client) l table) bytes
   where
     bytes : clientMark ++ (image .level ∷ 0 ∷ image .pointer % 256 ∷ image .pointer / 256 % 256 ∷ 0 ∷ 0 ∷ [])
         ≡ clientMark ++ (image .level ∷ 0 ∷ []) ++ leBytes 2 (image .pointer) ++ (0 ∷ 0 ∷ [])
     bytes = rw (leBytes-two (image .pointer))
 
 -- joining: refused, or done; and no second outcome fits
-pub join-refused : (table : List ℕ) (client r : ℕ) → r ≡ reply (tableRefusals table client) 0 → (r ≡ 0 → ⊥) → record { answer = r; table = table } ≡ join table client
+pub join-refused : (table : List ℕ) (client r : ℕ) → r ≡ reply (tableRefusals table client) 0 → (r ≡ 0 → ⊥)
+    → record { answer = r; table = table } ≡ join table client
 unfolding join
-join-refused table client r e some = λ i. record { answer = e i; table = (sym (ap (λ (b : Bool). cond b (withImage table client («at» 0 0)) table) (ne-eqb (reply (tableRefusals table client) 0) 0 (λ z. some (e ∙ z))))) i }
+join-refused table client r e some = λ i.
+    record {
+      answer = e i;
+      table =
+          (sym (ap (λ (b : Bool). cond b (withImage table client («at» 0 0)) table)
+          (ne-eqb (reply (tableRefusals table client) 0) 0 (λ z. some (e ∙ z))))) i;
+    }
 
-pub join-done : (table after : List ℕ) (client r : ℕ) → r ≡ reply (tableRefusals table client) 0 → r ≡ 0 → after ≡ withImage table client («at» 0 0)
+pub join-done : (table after : List ℕ) (client r : ℕ) → r ≡ reply (tableRefusals table client) 0 → r ≡ 0
+    → after ≡ withImage table client («at» 0 0)
     → record { answer = 0; table = after } ≡ join table client
 unfolding join
-join-done table after client r e none w = λ i. record { answer = (sym none ∙ e) i; table = (w ∙ sym (ap (λ (b : Bool). cond b (withImage table client («at» 0 0)) table) (eq-eqb (reply (tableRefusals table client) 0) 0 (sym e ∙ none)))) i }
+join-done table after client r e none w = λ i.
+    record {
+      answer = (sym none ∙ e) i;
+      table =
+          (w ∙ sym
+          (ap (λ (b : Bool). cond b (withImage table client («at» 0 0)) table)
+          (eq-eqb (reply (tableRefusals table client) 0) 0 (sym e ∙ none)))) i;
+    }
 
 -- its reply is the first refusal of the table; the table is written, or as it was
 pub join-reply : (table : List ℕ) (client : ℕ) → join table client .answer ≡ reply (tableRefusals table client) 0

@@ -21,12 +21,14 @@ cast-t5 c = omega (arith, limit-scan (c .before .before .before .args .letter) (
 returns-3 : tie.Need-returns-3
 returns-3 c =
     let a = c .before .before .before .args in
-    sym (named-scan (a .letter) (a .client) (a .number) (c .before .before .if1 .left) (c .before .if2 .left) (c .if3 .taken))
+    sym (named-scan (a .letter) (a .client) (a .number) (c .before .before .if1 .left) (c .before .if2 .left)
+    (c .if3 .taken))
 
 returns-4 : tie.Need-returns-4
 returns-4 c =
     let a = c .before .before .before .args in
-    sym (named-none (a .letter) (a .client) (a .number) (c .before .before .if1 .left) (c .before .if2 .left) (c .if3 .left))
+    sym (named-none (a .letter) (a .client) (a .number) (c .before .before .if1 .left) (c .before .if2 .left)
+    (c .if3 .left))
 
 pub command-named-spec : {M : Type 1} → statement M
 command-named-spec = tie.close (tie.spec returns returns-2 cast-t5 returns-3 returns-4)

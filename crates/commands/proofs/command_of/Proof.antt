@@ -19,7 +19,8 @@ enum-told c = search needs
 returns : tie.Need-returns
 returns c =
     let a = c .before .before .before .before .before .args in
-    sym (numbers-first (a .letter) (a .one .now) (a .two .now) (sym (c .before .before .read-number .ensures) ∙ c .enum-told .given .1))
+    sym (numbers-first (a .letter) (a .one .now) (a .two .now)
+    (sym (c .before .before .read-number .ensures) ∙ c .enum-told .given .1))
 
 most-after-requires : tie.Need-most-after-requires
 most-after-requires c κs = search needs
@@ -44,7 +45,8 @@ command-named-requires : tie.Need-command-named-requires
 command-named-requires c κs =
     let n = c .before .before .before in
     let a = n .before .before .before .before .before .before .before .before .args in
-    number-small (limitAfter (a .letter)) (a .two .now) _ (rw (← (n .before .most-after .ensures)) (sym (n .read-number2 .ensures) ∙ c .before .number .given .1))
+    number-small (limitAfter (a .letter)) (a .two .now) _
+    (rw (← (n .before .most-after .ensures)) (sym (n .read-number2 .ensures) ∙ c .before .number .given .1))
 
 returns-3 : tie.Need-returns-3
 returns-3 c =
@@ -53,7 +55,8 @@ returns-3 c =
     let a = m .before .before .before .args in
     c .command-named .ensures
     ∙ sym
-    (numbers-both (a .letter) (a .one .now) (a .two .now) _ _ (sym (m .read-number .ensures) ∙ n .before .before .before .client .given .1)
+    (numbers-both (a .letter) (a .one .now) (a .two .now) _ _
+    (sym (m .read-number .ensures) ∙ n .before .before .before .client .given .1)
     (rw (← (n .before .most-after .ensures)) (sym (n .read-number2 .ensures) ∙ c .before .before .number .given .1)))
 
 pub command-of-spec : {M : Type 1} → statement M

@@ -32,8 +32,12 @@ shared-slice-read-if1 c = search needs
 returns : tie.Need-returns Inv-loop μ-loop
 returns c =
     let a = c .before .before .before .before .args in
-    let l = c .before .before .before .loop in
-    (sym (first-here (test (a .byte) (a .bytes .now)) (length (a .bytes .now)) (l .i) (omega arith) (eq-eqb _ (a .byte) (c .if1 .taken))) ∙ l .inv .0, omega arith, omega arith)
+    let l = c .before .before .before .loop in (
+      sym (first-here (test (a .byte) (a .bytes .now)) (length (a .bytes .now)) (l .i) (omega arith)
+          (eq-eqb _ (a .byte) (c .if1 .taken))) ∙ l .inv .0,
+      omega arith,
+      omega arith,
+    )
 
 add-i : tie.Need-add-i Inv-loop μ-loop
 add-i c = search needs
@@ -44,14 +48,22 @@ loop-less c = search needs
 loop-again : tie.Need-loop-again Inv-loop μ-loop
 loop-again c =
     let a = c .before .before .before .before .args in
-    let l = c .before .before .before .loop in
-    (sym (first-later (test (a .byte) (a .bytes .now)) (length (a .bytes .now)) (l .i) (omega arith) (ne-eqb _ (a .byte) (c .if1 .left))) ∙ l .inv .0, omega arith, omega arith)
+    let l = c .before .before .before .loop in (
+      sym (first-later (test (a .byte) (a .bytes .now)) (length (a .bytes .now)) (l .i) (omega arith)
+          (ne-eqb _ (a .byte) (c .if1 .left))) ∙ l .inv .0,
+      omega arith,
+      omega arith,
+    )
 
 returns-2 : tie.Need-returns-2 Inv-loop μ-loop
 returns-2 c =
     let a = c .before .before .args in
-    let l = c .before .loop in
-    (sym (first-none (test (a .byte) (a .bytes .now)) (length (a .bytes .now)) (l .i) (omega arith)) ∙ l .inv .0, omega arith, omega arith)
+    let l = c .before .loop in (
+      sym (first-none (test (a .byte) (a .bytes .now)) (length (a .bytes .now)) (l .i) (omega arith))
+          ∙ l .inv .0,
+      omega arith,
+      omega arith,
+    )
 
 pub find-spec : {M : Type 1} → statement M
 find-spec =

@@ -1,4 +1,5 @@
--- `commands::read_command` goes by its first two spaces: no letter before the first, no second one, or a letter and two fields.
+-- `commands::read_command` goes by its first two spaces: no letter before the first, no second one, or a letter and two
+-- fields.
 use mathlib.Core.Path.{_∙_, sym}
 use native.Mathlib.Omega.{arith}
 use borrow.Author.Tests.{eq-eqb, ne-eqb}
@@ -22,13 +23,15 @@ returns-2 : tie.Need-returns-2
 returns-2 c =
     let f = c .before .before .before .before in
     let a = f .before .before .args in
-    sym (command-letter (a .line .now) (sym (f .find .ensures .0) ∙ c .before .before .before .if1 .left) (c .before .if2 .taken) ∙ rw (eq-eqb _ _ (c .if3 .taken)))
+    sym (command-letter (a .line .now) (sym (f .find .ensures .0) ∙ c .before .before .before .if1 .left)
+    (c .before .if2 .taken) ∙ rw (eq-eqb _ _ (c .if3 .taken)))
 
 returns-3 : tie.Need-returns-3
 returns-3 c =
     let f = c .before .before .before .before in
     let a = f .before .before .args in
-    sym (command-letter (a .line .now) (sym (f .find .ensures .0) ∙ c .before .before .before .if1 .left) (c .before .if2 .taken) ∙ rw (ne-eqb _ _ (c .if3 .left)))
+    sym (command-letter (a .line .now) (sym (f .find .ensures .0) ∙ c .before .before .before .if1 .left)
+    (c .before .if2 .taken) ∙ rw (ne-eqb _ _ (c .if3 .left)))
 
 find-requires-2 : tie.Need-find-requires-2
 find-requires-2 c κs = search needs
@@ -70,7 +73,8 @@ returns-5 c =
     let f = n .before .before .before .before in
     let a = f .before .before .args in
     let first = sym (f .find .ensures .0) ∙ c .before .before .before .before .before .before .before .if1 .left in
-    c .command-of .ensures ∙ sym (command-numbers (a .line .now) first (omega arith) (n .find2 .result) (n .find2 .ensures .0) (omega arith))
+    c .command-of .ensures ∙ sym
+    (command-numbers (a .line .now) first (omega arith) (n .find2 .result) (n .find2 .ensures .0) (omega arith))
 
 pub read-command-spec : {M : Type 1} → statement M
 read-command-spec =

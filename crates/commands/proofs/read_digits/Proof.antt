@@ -1,4 +1,5 @@
--- `commands::read_digits` takes digit after digit: what the digits left spell after the value so far stays the same at each step.
+-- `commands::read_digits` takes digit after digit: what the digits left spell after the value so far stays the same at
+-- each step.
 use Prim.Native.Nat.{_+_, _-_, _≤_}
 use mathlib.Core.Path.{_≡_, _∙_, sym}
 use native.Mathlib.Omega.{arith}
@@ -10,7 +11,8 @@ use Rattle.commands.proofs.read_digits.Statement.{statement}
 use Rattle.commands.proofs.read_digits.Tie as tie
 
 abbrev Inv-loop : tie.InvT-loop
-Inv-loop field most value₀ i₀ value i = (numberFrom (most + 1) value (drop i field) ≡ numberFrom (most + 1) 0 field) × (value ≤ most) × (i ≤ length field)
+Inv-loop field most value₀ i₀ value i = (numberFrom (most + 1) value (drop i field) ≡ numberFrom (most + 1) 0 field)
+    × (value ≤ most) × (i ≤ length field)
 
 abbrev μ-loop : tie.MeasureT-loop
 μ-loop field most value₀ i₀ value i = length field - i
@@ -45,7 +47,8 @@ returns-3 c =
     let l = c .before .before .before .before .before .before .loop in
     let w = c .before .wide in
     sym
-    (from-over (a .most + 1) (l .value) (a .field .now) (l .i) (omega arith) (w .result) (w .ensures .0) (omega arith) (omega arith) (omega arith))
+    (from-over (a .most + 1) (l .value) (a .field .now) (l .i) (omega arith) (w .result) (w .ensures .0) (omega arith)
+    (omega arith) (omega arith))
     ∙ l .inv .0
 
 mul-if4 : tie.Need-mul-if4 Inv-loop μ-loop
@@ -60,7 +63,8 @@ returns-4 c =
     let l = c .before .before .before .before .before .before .before .loop in
     let w = c .before .before .wide in
     sym
-    (from-over (a .most + 1) (l .value) (a .field .now) (l .i) (omega arith) (w .result) (w .ensures .0) (omega arith) (omega arith) (omega arith))
+    (from-over (a .most + 1) (l .value) (a .field .now) (l .i) (omega arith) (w .result) (w .ensures .0) (omega arith)
+    (omega arith) (omega arith))
     ∙ l .inv .0
 
 mul-value : tie.Need-mul-value Inv-loop μ-loop
@@ -80,7 +84,8 @@ loop-again c =
     let a = c .before .before .before .before .before .before .before .before .before .args in
     let l = c .before .before .before .before .before .before .before .loop in
     let w = c .before .before .wide in
-    let step = from-digit (a .most + 1) (l .value) (a .field .now) (l .i) (omega arith) (w .result) (w .ensures .0) (omega arith) (omega arith) in
+    let step = from-digit (a .most + 1) (l .value) (a .field .now) (l .i) (omega arith) (w .result) (w .ensures .0)
+    (omega arith) (omega arith) in
     (sym step ∙ l .inv .0, omega arith, omega arith)
 
 returns-5 : tie.Need-returns-5 Inv-loop μ-loop

@@ -67,7 +67,8 @@ module _ (limit x : ℕ) (small : x < limit) where
   decimal-number = rw (decimal-isNumber, decimal-value x)
 
 -- a byte in front of digits that are all digits is one
-pub digit-first : (b : ℕ) (bs : List ℕ) → allDigits (b ∷ bs) ≡ true → (digit0 ≤ b) × (b ≤ digit9) × (allDigits bs ≡ true)
+pub digit-first : (b : ℕ) (bs : List ℕ) → allDigits (b ∷ bs) ≡ true
+    → (digit0 ≤ b) × (b ≤ digit9) × (allDigits bs ≡ true)
 unfolding allDigits
 digit-first b bs h =
     let (ends, rest) = and-eq-true-iff (leb digit0 b && leb b digit9) (allDigits bs) .0 h in
@@ -105,7 +106,8 @@ decimal-only (b ∷ c ∷ cs) h k =
     decimal-spelled (c ∷ cs) (0 * 10 + (b - digit0)) (omega arith) rest
     ∙ ap (λ (ds : List ℕ). ds ++ (c ∷ cs)) (digit-decimal b low high)
 
-pub number-spelling : (limit : ℕ) (bs : List ℕ) → isNumber limit bs ≡ true → (decimal (value bs) ≡ bs) × (value bs < limit)
+pub number-spelling : (limit : ℕ) (bs : List ℕ) → isNumber limit bs ≡ true
+    → (decimal (value bs) ≡ bs) × (value bs < limit)
 unfolding isNumber
 number-spelling limit bs h =
     let (shape, small) = and-eq-true-iff (allDigits bs && noSpareZero bs) (ltb (value bs) limit) .0 h in

@@ -10,8 +10,10 @@ use lib.Dec.{leb, eqb}
 use lib.ListN.{length, getD, take, drop, length-take, length-drop}
 use lib.Seq.{take-all}
 use Rattle.lines.specs.Bytes.{space, digit0, digit9, letterA, letterG, letterI, letterS}
-use Rattle.commands.specs.Text.{allDigits, isNumber, numberOf, placeOf, pieces, named, limitAfter, ofNumbers, ofFields, commandOf}
-use Rattle.commands.specs.Text.Pieces.{some-piece, together, together-pieces, place-within, pieces-first, pieces-more, pieces-last}
+use Rattle.commands.specs.Text.{allDigits, isNumber, numberOf, placeOf, pieces, named, limitAfter, ofNumbers}
+use Rattle.commands.specs.Text.{ofFields, commandOf}
+use Rattle.commands.specs.Text.Pieces.{some-piece, together, together-pieces, place-within, pieces-first}
+use Rattle.commands.specs.Text.Pieces.{pieces-more, pieces-last}
 use Rattle.commands.specs.Text.Reading.{number-good, number-bad}
 use Rattle.commands.specs.declared.Command.the-variants.{Split, Insert, Search, Scan, Unknown}
 use Rattle.commands.specs.declared.Number.the-variants.{Value, Malformed}
@@ -62,7 +64,8 @@ module _ (letter : ℕ) (one two : List ℕ) where
   pub numbers-second : numberOf (limitAfter letter) two ≡ Malformed → ofNumbers letter one two ≡ Unknown
   numbers-second e = second-bad (number-bad (limitAfter letter) two e)
 
-  pub numbers-both : (client number : ℕ) → numberOf (2 ^ 64) one ≡ Value client → numberOf (limitAfter letter) two ≡ Value number
+  pub numbers-both : (client number : ℕ) → numberOf (2 ^ 64) one ≡ Value client
+      → numberOf (limitAfter letter) two ≡ Value number
       → ofNumbers letter one two ≡ named letter client number
   unfolding ofNumbers
   numbers-both client number e f =
@@ -77,7 +80,8 @@ module _ (letter : ℕ) (one two : List ℕ) where
       let (first, rest, is) = some-piece space two in
       go first rest is (ap (together space) (sym is) ∙ together-pieces space two)
     where
-      go : (first : List ℕ) (rest : List (List ℕ)) → pieces space two ≡ first ∷ rest → together space (first ∷ rest) ≡ two
+      go : (first : List ℕ) (rest : List (List ℕ)) → pieces space two ≡ first ∷ rest
+          → together space (first ∷ rest) ≡ two
           → ofFields ((letter ∷ []) ∷ one ∷ pieces space two) ≡ ofNumbers letter one two
       go first [] is whole = rw is (ap (ofNumbers letter one) whole)
       go first (next ∷ more) is whole =
@@ -100,12 +104,15 @@ module _ (line : List ℕ) where
   command-other h =
       let (rest, is) = pieces-first space line 0 (omega arith) in
       let size = length-take (placeOf space line 0 - 0) line in
-      rw is (long-letter (take (placeOf space line 0 - 0) line) rest (λ e. h (omega (arith, e, size, place-within space line 0 (omega arith)))))
+      rw is
+      (long-letter (take (placeOf space line 0 - 0) line) rest
+      (λ e. h (omega (arith, e, size, place-within space line 0 (omega arith)))))
 
   module _ (first : placeOf space line 0 ≡ 1) where
     pub command-letter : length line ≡ 1 → commandOf line ≡ cond (eqb (getD line 0 0) letterG) Split Unknown
     unfolding commandOf ofFields
-    command-letter h = ap ofFields (pieces-last space line 0 (omega arith) (first ∙ sym h) ∙ ap (λ (l : List ℕ). l ∷ []) whole)
+    command-letter h = ap ofFields
+        (pieces-last space line 0 (omega arith) (first ∙ sym h) ∙ ap (λ (l : List ℕ). l ∷ []) whole)
       where
         whole : line ≡ getD line 0 0 ∷ []
         whole = sym (take-all 1 line (omega arith)) ∙ take-one line (omega arith)
@@ -121,11 +128,14 @@ module _ (line : List ℕ) where
       command-short h = rw (letter-first, pieces-last space line 2 (omega arith) h)
 
       pub command-numbers : (end : ℕ) → end ≡ placeOf space line 2 → end < length line
-          → commandOf line ≡ ofNumbers (getD line 0 0) (take (end - 2) (drop 2 line)) (take (length line - (end + 1)) (drop (end + 1) line))
+          → commandOf line ≡ ofNumbers (getD line 0 0) (take (end - 2) (drop 2 line))
+          (take (length line - (end + 1)) (drop (end + 1) line))
       unfolding commandOf
       command-numbers end is h =
           let more = pieces-more space line 2 (omega arith) (omega arith) in
           rw (letter-first, more, ← is) (three-fields _ _ (drop (suc end) line) ∙ ap (ofNumbers _ _) rest)
         where
           rest : drop (suc end) line ≡ take (length line - (end + 1)) (drop (end + 1) line)
-          rest = ap (λ (k : ℕ). drop k line) (sym (add-one end)) ∙ sym (take-all (length line - (end + 1)) (drop (end + 1) line) (omega (arith, length-drop (end + 1) line)))
+          rest = ap (λ (k : ℕ). drop k line) (sym (add-one end))
+              ∙ sym
+              (take-all (length line - (end + 1)) (drop (end + 1) line) (omega (arith, length-drop (end + 1) line)))

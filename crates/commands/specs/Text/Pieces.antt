@@ -1,4 +1,5 @@
--- The pieces of a text: put together they are the text, and from a place on the first of them ends where the next b stands.
+-- The pieces of a text: put together they are the text, and from a place on the first of them ends where the next b
+-- stands.
 use Prim.Native.Nat.{ℕ, zero, suc, _+_, _-_, _≤_, _<_}
 use mathlib.Core.Path.{_≡_, refl, _∙_, sym, ap, ap₂, subst}
 use mathlib.Core.Bool.{Bool, cond}
@@ -44,7 +45,8 @@ module _ (b : ℕ) where
       (λ e. rw (eq-eqb x b e, is) (ap₂ (λ (z : ℕ) (r : List ℕ). z ∷ r) (sym e) (rw is at (together-pieces xs))))
       (λ e. rw (ne-eqb x b e, is) (front rest first (rw is at (together-pieces xs))))
     where
-      front : (rest : List (List ℕ)) (first : List ℕ) → together (first ∷ rest) ≡ xs → together ((x ∷ first) ∷ rest) ≡ x ∷ xs
+      front : (rest : List (List ℕ)) (first : List ℕ) → together (first ∷ rest) ≡ xs
+          → together ((x ∷ first) ∷ rest) ≡ x ∷ xs
       front [] first h = ap (λ (r : List ℕ). x ∷ r) h
       front (next ∷ more) first h = ap (λ (r : List ℕ). x ∷ r) h
 
@@ -67,19 +69,29 @@ module _ (b : ℕ) where
     module _ (from : ℕ) (inside : from < length text) where
       parted-here : getD text from 0 ≡ b → Parted from from
       unfolding Parted rest pieces
-      parted-here is = rw (drop-cons text from 0 inside, eq-eqb (getD text from 0) b is, lt-ltb from (length text) inside, sub-self from)
+      parted-here is = rw (
+        drop-cons text from 0 inside,
+        eq-eqb (getD text from 0) b is,
+        lt-ltb from (length text) inside,
+        sub-self
+            from,
+      )
 
-      parted-on : (place : ℕ) → (getD text from 0 ≡ b → ⊥) → suc from ≤ place → Parted (suc from) place → Parted from place
+      parted-on : (place : ℕ) → (getD text from 0 ≡ b → ⊥) → suc from ≤ place → Parted (suc from) place
+          → Parted from place
       unfolding Parted pieces longer
       parted-on place other past next =
           let more : place - from ≡ suc (place - suc from) = omega arith in
           rw (drop-cons text from 0 inside, ne-eqb (getD text from 0) b other, next, more)
 
     parted : (count from : ℕ) → from + count ≡ length text → Parted from (placeOf b text from)
-    parted zero from e = subst (Parted from) (sym (first-none (λ k. eqb (getD text k 0) b) (length text) from (omega arith))) (parted-end from (omega arith))
+    parted zero from e = subst (Parted from)
+        (sym (first-none (λ k. eqb (getD text k 0) b) (length text) from (omega arith))) (parted-end from (omega arith))
     parted (suc count) from e = by-cases (ℕ-discrete (getD text from 0) b)
-        (λ is. subst (Parted from) (sym (first-here test (length text) from inside (eq-eqb (getD text from 0) b is))) (parted-here from inside is))
-        (λ other. subst (Parted from) (sym (on other)) (parted-on from inside (placeOf b text (suc from)) other past (parted count (suc from) (omega arith))))
+        (λ is. subst (Parted from) (sym (first-here test (length text) from inside (eq-eqb (getD text from 0) b is)))
+        (parted-here from inside is))
+        (λ other. subst (Parted from) (sym (on other))
+        (parted-on from inside (placeOf b text (suc from)) other past (parted count (suc from) (omega arith))))
       where
         test : ℕ → Bool
         test k = eqb (getD text k 0) b
@@ -97,17 +109,24 @@ module _ (b : ℕ) where
       pub place-within : placeOf b text from ≤ length text
       place-within = omega (arith, first-within (λ k. eqb (getD text k 0) b) (length text - from) from .1)
 
-      pub pieces-first : (rest : List (List ℕ)) × (pieces b (drop from text) ≡ take (placeOf b text from - from) (drop from text) ∷ rest)
+      pub pieces-first : (rest : List (List ℕ))
+          × (pieces b (drop from text) ≡ take (placeOf b text from - from) (drop from text) ∷ rest)
       unfolding Parted
       pieces-first = (rest (placeOf b text from), parted (length text - from) from (omega arith))
 
       pub pieces-more : placeOf b text from < length text
-          → pieces b (drop from text) ≡ take (placeOf b text from - from) (drop from text) ∷ pieces b (drop (suc (placeOf b text from)) text)
+          → pieces b (drop from text)
+          ≡ take (placeOf b text from - from) (drop from text) ∷ pieces b (drop (suc (placeOf b text from)) text)
       unfolding Parted rest
-      pieces-more h = rw (lt-ltb (placeOf b text from) (length text) h) at (parted (length text - from) from (omega arith))
+      pieces-more h = rw (lt-ltb (placeOf b text from) (length text) h) at
+          (parted (length text - from) from (omega arith))
 
       pub pieces-last : placeOf b text from ≡ length text → pieces b (drop from text) ≡ drop from text ∷ []
       unfolding Parted rest
       pieces-last h =
-          rw (le-ltb (placeOf b text from) (length text) (omega (arith, h)), take-all (placeOf b text from - from) (drop from text) (omega (arith, h, length-drop from text)))
+          rw (
+            le-ltb (placeOf b text from) (length text) (omega (arith, h)),
+            take-all (placeOf b text from - from)
+                (drop from text) (omega (arith, h, length-drop from text)),
+          )
           at (parted (length text - from) from (omega arith))

@@ -1,5 +1,5 @@
--- Reading a number digit by digit: each step keeps what is still to be read the same, and a byte that is no digit, or a number past the limit,
--- spoils it for good.
+-- Reading a number digit by digit: each step keeps what is still to be read the same, and a byte that is no digit, or a
+-- number past the limit, spoils it for good.
 use Prim.Native.Nat.{ℕ, _+_, _-_, _*_, _≤_, _<_}
 use mathlib.Core.Path.{_≡_, refl, _∙_}
 use mathlib.Core.Bool.{Bool, true, false, cond, _&&_, and-false, and-eq-true-iff}
@@ -78,7 +78,8 @@ module _ (limit : ℕ) where
   number-zero (b ∷ []) h e = absurd (omega arith)
   number-zero (b ∷ c ∷ cs) h e = number-spare (b ∷ c ∷ cs) (rw (eq-eqb b digit0 e))
 
-  pub number-many : (bs : List ℕ) → 1 < length bs → (getD bs 0 0 ≡ digit0 → ⊥) → numberOf limit bs ≡ numberFrom limit 0 bs
+  pub number-many : (bs : List ℕ) → 1 < length bs → (getD bs 0 0 ≡ digit0 → ⊥)
+      → numberOf limit bs ≡ numberFrom limit 0 bs
   unfolding noSpareZero
   number-many [] h e = absurd (omega arith)
   number-many (b ∷ []) h e = absurd (omega arith)
@@ -97,7 +98,12 @@ module _ (limit : ℕ) where
   unfolding isNumber
   number-small bs n e =
       let (good, is) = number-good bs n e in
-      omega (arith, is, ltb-true (value bs) limit (and-eq-true-iff (allDigits bs && noSpareZero bs) (ltb (value bs) limit) .0 good .1))
+      omega (
+        arith,
+        is,
+        ltb-true (value bs) limit
+            (and-eq-true-iff (allDigits bs && noSpareZero bs) (ltb (value bs) limit) .0 good .1),
+      )
 
   pub number-bad : (bs : List ℕ) → numberOf limit bs ≡ Malformed → isNumber limit bs ≡ false
   unfolding numberOf

@@ -1,5 +1,6 @@
--- Demand 3: a sound file and a sound table with no client ahead stay so; a key sent reaches its own bucket in at most two forwards;
--- a wrong first send makes the client believe in more buckets, and it never believes in more than there are.
+-- Demand 3: a sound file and a sound table with no client ahead stay so; a key sent reaches its own bucket in at most
+-- two forwards; a wrong first send makes the client believe in more buckets, and it never believes in more than there
+-- are.
 use Prim.Native.Nat.{ℕ, _+_, _*_, _≤_, _<_}
 use mathlib.Core.Path.{_≡_, refl, sym, ap, subst, _∙_}
 use mathlib.Core.Bool.{Bool, true, false, cond, not, _&&_}
@@ -20,26 +21,32 @@ use Rattle.address.specs.Rules.Route.{Delivered, delivered, forwards-is, forwar
 use Rattle.address.specs.Rules.Scan.{times}
 use Rattle.layout.specs.Replies.{reply}
 use Rattle.client.specs.Table.{exists, imageOf, tableSound, tableRefusals, withImage, join}
-use Rattle.client.specs.Table.Kept.{written-image, written-exists, other-image, table-kept}
+use Rattle.client.specs.Table.Keeping.{written-image, written-exists, other-image, table-kept}
 use Rattle.client.specs.Table.Laws.{join-ways, record-fits}
+use Rattle.file.specs.File.Judge.{existing}
 use Rattle.file.specs.File.{stateOf, bucketsOf, bucketSoundIn}
 use Rattle.route.specs.Way.{early, ownOf}
-use Rattle.route.specs.Way.Kept.{Passed, passed, existing, formed, believes, near, written-behind, written-grows, route-sound}
+use Rattle.route.specs.Way.Keeping.{Passed, passed, formed, believes, near, written-behind, written-grows}
+use Rattle.route.specs.Way.Keeping.{route-sound}
 use Rattle.route.specs.Way.Own.{own-is}
 use Rattle.route.specs.Way.Route.{way-route, cut-none}
 use Rattle.ride.specs.Call.{adjustedTable}
-use Rattle.ride.specs.Call.Kept.{adjusted-image, adjusted-other, adjusted-exists, adjusted-kept}
+use Rattle.ride.specs.Call.Keeping.{adjusted-image, adjusted-other, adjusted-exists, adjusted-kept}
 use Rattle.ride.specs.Call.Left.{search-ways, insert-ways}
-use Rattle.demands.specs.Run.{Memory, Call, Join, Insert, Search, Split, Scan, Check, View, Parent, Typed, AllTyped, left, after, run, replied, answered, visited, Ready, Sent, Nothing, Key, sentIf, sent, routeOf, Reached, believed, wrongFirst, forwardsOf, summed, NotJoined}
-use Rattle.scan.specs.Scan.Accepted.{scan-visits-once, scan-visits-only}
+use Rattle.demands.specs.Run.{Memory, Call, Join, Insert, Search, Split, Scan, Check, View, Parent, Typed}
+use Rattle.demands.specs.Run.{AllTyped, left, after, run, replied, answered, visited, Ready, Sent, Nothing, Key}
+use Rattle.demands.specs.Run.{sentIf, sent, routeOf, Reached, believed, wrongFirst, forwardsOf, summed, NotJoined}
+use Rattle.scan.specs.Scan.Outcome.{scan-visits-once, scan-visits-only}
 use Rattle.demands.specs.Run.Held.{step, through}
 
--- what becomes of the table: sound, no client ahead, the same clients, and none of them believes in fewer buckets unless it is joined anew
+-- what becomes of the table: sound, no client ahead, the same clients, and none of them believes in fewer buckets
+-- unless it is joined anew
 record Behind (call : Call) (file table now : List ℕ) : Type 0 where
   sound : tableSound now ≡ true
   none-ahead : (client : ℕ) → exists now client ≡ true → NotAhead firstBuckets (stateOf file) (imageOf now client)
   there : (client : ℕ) → exists now client ≡ exists table client
-  grows : (client : ℕ) → (call ≡ Join client → ⊥) → exists table client ≡ true → buckets firstBuckets (imageOf table client) ≤ buckets firstBuckets (imageOf now client)
+  grows : (client : ℕ) → (call ≡ Join client → ⊥) → exists table client ≡ true
+      → buckets firstBuckets (imageOf table client) ≤ buckets firstBuckets (imageOf now client)
 
 module _ (m : Memory) (ready : Ready m) where
   as-it-was : (call : Call) (now : List ℕ) → now ≡ m .table → Behind call (m .file) (m .table) now
@@ -67,39 +74,62 @@ module _ (m : Memory) (ready : Ready m) where
       sound = adjusted-kept (m .file) (m .table) client key open-to (ready .table-sound);
       none-ahead = λ other there. by-cases (ℕ-discrete other client)
           (λ e. subst (λ (x : ℕ). NotAhead firstBuckets (stateOf (m .file)) (imageOf now x)) (sym e)
-          (subst (NotAhead firstBuckets (stateOf (m .file))) (sym (adjusted-image (m .file) (m .table) client key open-to)) (written-behind (m .file) (m .table) client key open-to)))
-          (λ apart. subst (NotAhead firstBuckets (stateOf (m .file))) (sym (adjusted-other (m .file) (m .table) client key open-to other apart))
+          (subst (NotAhead firstBuckets (stateOf (m .file)))
+          (sym (adjusted-image (m .file) (m .table) client key open-to))
+          (written-behind (m .file) (m .table) client key open-to)))
+          (λ apart. subst (NotAhead firstBuckets (stateOf (m .file)))
+          (sym (adjusted-other (m .file) (m .table) client key open-to other apart))
           (ready .none-ahead other (sym (adjusted-exists (m .file) (m .table) client key open-to other) ∙ there)));
       there = adjusted-exists (m .file) (m .table) client key open-to;
       grows = λ other old there. by-cases (ℕ-discrete other client)
-          (λ e. subst (λ (x : ℕ). buckets firstBuckets (imageOf (m .table) x) ≤ buckets firstBuckets (imageOf now x)) (sym e)
-          (omega (arith, ap (buckets firstBuckets) (adjusted-image (m .file) (m .table) client key open-to), written-grows (m .file) (m .table) client key open-to)))
-          (λ apart. omega (arith, ap (buckets firstBuckets) (adjusted-other (m .file) (m .table) client key open-to other apart)));
+          (λ e. subst (λ (x : ℕ). buckets firstBuckets (imageOf (m .table) x) ≤ buckets firstBuckets (imageOf now x))
+          (sym e)
+          (omega (
+            arith,
+            ap (buckets firstBuckets) (adjusted-image (m .file) (m .table) client key open-to),
+            written-grows
+                (m .file) (m .table) client key open-to,
+          )))
+          (λ apart. omega
+          (arith, ap (buckets firstBuckets) (adjusted-other (m .file) (m .table) client key open-to other apart)));
     }
 
     -- a wrong first bucket makes the client believe in more
-    wrong-grows : (address firstBuckets image key ≡ ownOf (m .file) key → ⊥) → buckets firstBuckets image < buckets firstBuckets (imageOf now client)
+    wrong-grows : (address firstBuckets image key ≡ ownOf (m .file) key → ⊥)
+        → buckets firstBuckets image < buckets firstBuckets (imageOf now client)
     unfolding now next image
     wrong-grows wrong = omega (
       arith,
       ap (buckets firstBuckets) (adjusted-image (m .file) (m .table) client key open-to),
-      after-more firstBuckets (omega arith) (stateOf (m .file)) (formed (m .file) (m .table) client open-to) (imageOf (m .table) client) (believes (m .file) (m .table) client open-to)
+      after-more firstBuckets (omega arith) (stateOf (m .file)) (formed (m .file) (m .table) client open-to)
+          (imageOf (m .table) client) (believes (m .file) (m .table) client open-to)
           (near (m .file) (m .table) client open-to) key
-          (λ keeps. wrong (first-right firstBuckets (omega arith) (stateOf (m .file)) (formed (m .file) (m .table) client open-to) (imageOf (m .table) client) (believes (m .file) (m .table) client open-to)
+          (λ keeps. wrong
+          (first-right firstBuckets (omega arith) (stateOf (m .file)) (formed (m .file) (m .table) client open-to)
+          (imageOf (m .table) client) (believes (m .file) (m .table) client open-to)
           (near (m .file) (m .table) client open-to) key .1 keeps ∙ sym (own-is (m .file) key _ refl))),
     )
 
   -- a join writes (0, 0), which believes in one bucket
-  join-behind : (client : ℕ) → reply (tableRefusals (m .table) client) 0 ≡ 0 → Behind (Join client) (m .file) (m .table) (withImage (m .table) client («at» 0 0))
+  join-behind : (client : ℕ) → reply (tableRefusals (m .table) client) 0 ≡ 0
+      → Behind (Join client) (m .file) (m .table) (withImage (m .table) client («at» 0 0))
   join-behind client none = record {
     sound = table-kept (m .table) client («at» 0 0) fits (omega arith) first-formed (ready .table-sound);
     none-ahead = λ other there. by-cases (ℕ-discrete other client)
-        (λ e. subst (λ (x : ℕ). NotAhead firstBuckets (stateOf (m .file)) (imageOf (withImage (m .table) client («at» 0 0)) x)) (sym e)
-        (subst (NotAhead firstBuckets (stateOf (m .file))) (sym (written-image (m .table) client («at» 0 0) fits (omega arith) first-formed)) least))
-        (λ apart. subst (NotAhead firstBuckets (stateOf (m .file))) (sym (other-image (m .table) client («at» 0 0) fits other apart))
+        (λ e. subst
+        (λ (x : ℕ). NotAhead firstBuckets (stateOf (m .file)) (imageOf (withImage (m .table) client («at» 0 0)) x))
+        (sym e)
+        (subst (NotAhead firstBuckets (stateOf (m .file)))
+        (sym (written-image (m .table) client («at» 0 0) fits (omega arith) first-formed)) least))
+        (λ apart. subst (NotAhead firstBuckets (stateOf (m .file)))
+        (sym (other-image (m .table) client («at» 0 0) fits other apart))
         (ready .none-ahead other (sym (written-exists (m .table) client («at» 0 0) fits other) ∙ there)));
     there = written-exists (m .table) client («at» 0 0) fits;
-    grows = λ other old there. omega (arith, ap (buckets firstBuckets) (other-image (m .table) client («at» 0 0) fits other (λ e. old (ap Join (sym e)))));
+    grows = λ other old there. omega (
+      arith,
+      ap (buckets firstBuckets)
+          (other-image (m .table) client («at» 0 0) fits other (λ e. old (ap Join (sym e)))),
+    );
   }
     where
       fits : 8 * client + 8 ≤ length (m .table)
@@ -109,7 +139,14 @@ module _ (m : Memory) (ready : Ready m) where
       first-formed = span-pos firstBuckets (omega arith) 0
 
       least : NotAhead firstBuckets (stateOf (m .file)) («at» 0 0)
-      least = omega (arith, buckets-is firstBuckets («at» 0 0), span-is firstBuckets 0, buckets-is firstBuckets (stateOf (m .file)), span-pos firstBuckets (omega arith) (stateOf (m .file) .level))
+      least = omega (
+        arith,
+        buckets-is firstBuckets («at» 0 0),
+        span-is firstBuckets 0,
+        buckets-is firstBuckets
+            (stateOf (m .file)),
+        span-pos firstBuckets (omega arith) (stateOf (m .file) .level),
+      )
 
   table-step : (call : Call) → Behind call (m .file) (m .table) (after m call .table)
   unfolding after left now answered
@@ -121,7 +158,8 @@ module _ (m : Memory) (ready : Ready m) where
       (λ w held. adjusted-behind client key (passed _ _ client (w .none)) _)
       (λ w free whole. adjusted-behind client key (passed _ _ client (w .none)) _)
       (λ w free room. adjusted-behind client key (passed _ _ client (w .none)) _)
-  table-step (Search client key answer) = search-ways (m .file) (m .table) client key answer (λ o. Behind (Search client key answer) (m .file) (m .table) (o .table))
+  table-step (Search client key answer) = search-ways (m .file) (m .table) client key answer
+      (λ o. Behind (Search client key answer) (m .file) (m .table) (o .table))
       (λ o r. as-it-was _ (o .table) (r .table-left))
       (λ w held. adjusted-behind client key (passed _ _ client (w .none)) _)
       (λ w absent. adjusted-behind client key (passed _ _ client (w .none)) _)
@@ -140,7 +178,8 @@ module _ (m : Memory) (ready : Ready m) where
         bytes = grown .bytes;
         file-sound = grown .sound;
         table-sound = behind .sound;
-        none-ahead = λ client there. omega (arith, behind .none-ahead client there, grown .up, existing (m .file), existing (after m call .file));
+        none-ahead = λ client there. omega
+            (arith, behind .none-ahead client there, grown .up, existing (m .file), existing (after m call .file));
       }
 
   -- ---- a key that is sent
@@ -152,39 +191,58 @@ module _ (m : Memory) (ready : Ready m) where
     -- in a sound file no bucket on its route is unsound, so the route is whole
     route-whole : routeOf m client key ≡ route firstBuckets (stateOf (m .file)) (imageOf (m .table) client) key
     unfolding routeOf
-    route-whole = cut-none (bucketSoundIn (m .file)) _ (route-sound (m .file) (m .table) client key open-to (ready .file-sound)) ∙ way-route (m .file) (imageOf (m .table) client) key
+    route-whole = cut-none (bucketSoundIn (m .file)) _
+        (route-sound (m .file) (m .table) client key open-to (ready .file-sound))
+        ∙ way-route (m .file) (imageOf (m .table) client) key
 
     -- it reaches its own bucket in at most two forwards, each to a higher-numbered bucket
-    sent-delivered : (h : ℕ) × (h ≤ 2) × Delivered firstBuckets (stateOf (m .file)) key (address firstBuckets (imageOf (m .table) client) key) h (routeOf m client key)
-    sent-delivered = rw route-whole (delivered firstBuckets (omega arith) (stateOf (m .file)) (formed (m .file) (m .table) client open-to) (imageOf (m .table) client)
+    sent-delivered : (h : ℕ) × (h ≤ 2)
+        × Delivered firstBuckets (stateOf (m .file)) key (address firstBuckets (imageOf (m .table) client) key) h
+        (routeOf m client key)
+    sent-delivered = rw route-whole
+        (delivered firstBuckets (omega arith) (stateOf (m .file)) (formed (m .file) (m .table) client open-to)
+        (imageOf (m .table) client)
         (believes (m .file) (m .table) client open-to) (near (m .file) (m .table) client open-to) key)
 
     -- without any if the first bucket is its own
-    right-first : address firstBuckets (imageOf (m .table) client) key ≡ ownOf (m .file) key → forwards (routeOf m client key) ≡ 0
-    right-first e = ap forwards (route-whole ∙ route-right firstBuckets (omega arith) (stateOf (m .file)) (formed (m .file) (m .table) client open-to) (imageOf (m .table) client)
+    right-first : address firstBuckets (imageOf (m .table) client) key ≡ ownOf (m .file) key
+        → forwards (routeOf m client key) ≡ 0
+    right-first e = ap forwards
+        (route-whole ∙ route-right firstBuckets (omega arith) (stateOf (m .file))
+        (formed (m .file) (m .table) client open-to) (imageOf (m .table) client)
         (believes (m .file) (m .table) client open-to) (near (m .file) (m .table) client open-to) key
-        (first-right firstBuckets (omega arith) (stateOf (m .file)) (formed (m .file) (m .table) client open-to) (imageOf (m .table) client)
-        (believes (m .file) (m .table) client open-to) (near (m .file) (m .table) client open-to) key .0 (e ∙ own-is (m .file) key _ refl)))
+        (first-right firstBuckets (omega arith) (stateOf (m .file)) (formed (m .file) (m .table) client open-to)
+        (imageOf (m .table) client)
+        (believes (m .file) (m .table) client open-to) (near (m .file) (m .table) client open-to) key .0
+        (e ∙ own-is (m .file) key _ refl)))
         ∙ forwards-is _
 
     two-forwards : forwards (routeOf m client key) ≤ 2
-    two-forwards = rw route-whole (forwards-short firstBuckets (omega arith) (stateOf (m .file)) (formed (m .file) (m .table) client open-to) (imageOf (m .table) client)
+    two-forwards = rw route-whole
+        (forwards-short firstBuckets (omega arith) (stateOf (m .file)) (formed (m .file) (m .table) client open-to)
+        (imageOf (m .table) client)
         (believes (m .file) (m .table) client open-to) (near (m .file) (m .table) client open-to) key)
 
   -- a key is sent, or nothing is
-  sent-ways : (P : Sent → Type 0) (fits : Bool) (client key : ℕ) → (fits ≡ true → reply (early (m .file) (m .table) client) 0 ≡ 0 → P (Key client key)) → P Nothing → P (sentIf fits m client key)
+  sent-ways : (P : Sent → Type 0) (fits : Bool) (client key : ℕ)
+      → (fits ≡ true → reply (early (m .file) (m .table) client) 0 ≡ 0 → P (Key client key)) → P Nothing
+      → P (sentIf fits m client key)
   unfolding sentIf
   sent-ways P fits client key key-sent nothing = go fits refl (eqb (reply (early (m .file) (m .table) client) 0) 0) refl
     where
-      go : (x : Bool) → fits ≡ x → (y : Bool) → eqb (reply (early (m .file) (m .table) client) 0) 0 ≡ y → P (cond (x && y) (Key client key) Nothing)
+      go : (x : Bool) → fits ≡ x → (y : Bool) → eqb (reply (early (m .file) (m .table) client) 0) 0 ≡ y
+          → P (cond (x && y) (Key client key) Nothing)
       go false ex y ey = nothing
       go true ex false ey = nothing
       go true ex true ey = key-sent ex (eqb-true _ 0 ey)
 
-  sent-by : (P : Sent → Type 0) → P Nothing → ((client key : ℕ) → reply (early (m .file) (m .table) client) 0 ≡ 0 → P (Key client key)) → (call : Call) → P (sent m call)
+  sent-by : (P : Sent → Type 0) → P Nothing
+      → ((client key : ℕ) → reply (early (m .file) (m .table) client) 0 ≡ 0 → P (Key client key)) → (call : Call)
+      → P (sent m call)
   unfolding sent
   sent-by P nothing key-sent (Join client) = nothing
-  sent-by P nothing key-sent (Insert client key payload answer) = sent-ways P _ client key (λ fits. key-sent client key) nothing
+  sent-by P nothing key-sent (Insert client key payload answer) = sent-ways P _ client key (λ fits. key-sent client key)
+      nothing
   sent-by P nothing key-sent (Search client key answer) = sent-ways P _ client key (λ fits. key-sent client key) nothing
   sent-by P nothing key-sent Split = nothing
   sent-by P nothing key-sent (Scan client lift visits matches) = nothing
@@ -197,60 +255,96 @@ module _ (m : Memory) (ready : Ready m) where
   sent-reaches = sent-by (Reached m) tt sent-delivered
 
   -- forwards are at most twice the wrong first sends
-  pub forwards-twice : (client : ℕ) (call : Call) → forwardsOf client m (sent m call) ≤ 2 * wrongFirst client m (sent m call)
+  pub forwards-twice : (client : ℕ) (call : Call)
+      → forwardsOf client m (sent m call) ≤ 2 * wrongFirst client m (sent m call)
   unfolding forwardsOf wrongFirst
-  forwards-twice client call = sent-by (λ s. forwardsOf client m s ≤ 2 * wrongFirst client m s) (omega arith) of-key call
+  forwards-twice client call = sent-by (λ s. forwardsOf client m s ≤ 2 * wrongFirst client m s) (omega arith) of-key
+      call
     where
-      of-key : (other key : ℕ) → reply (early (m .file) (m .table) other) 0 ≡ 0 → forwardsOf client m (Key other key) ≤ 2 * wrongFirst client m (Key other key)
-      of-key other key none = go (eqb other client) refl (eqb (address firstBuckets (imageOf (m .table) client) key) (ownOf (m .file) key)) refl
+      of-key : (other key : ℕ) → reply (early (m .file) (m .table) other) 0 ≡ 0
+          → forwardsOf client m (Key other key) ≤ 2 * wrongFirst client m (Key other key)
+      of-key other key none = go (eqb other client) refl
+          (eqb (address firstBuckets (imageOf (m .table) client) key) (ownOf (m .file) key)) refl
         where
-          go : (mine : Bool) → eqb other client ≡ mine → (right : Bool) → eqb (address firstBuckets (imageOf (m .table) client) key) (ownOf (m .file) key) ≡ right
+          go : (mine : Bool) → eqb other client ≡ mine → (right : Bool)
+              → eqb (address firstBuckets (imageOf (m .table) client) key) (ownOf (m .file) key) ≡ right
               → cond mine (forwards (routeOf m client key)) 0 ≤ 2 * cond (mine && not right) 1 0
           go false em right er = omega arith
-          go true em true er = omega (arith, right-first client key (subst (λ (c : ℕ). reply (early (m .file) (m .table) c) 0 ≡ 0) (eqb-true _ _ em) none) (eqb-true _ _ er))
-          go true em false er = omega (arith, two-forwards client key (subst (λ (c : ℕ). reply (early (m .file) (m .table) c) 0 ≡ 0) (eqb-true _ _ em) none))
+          go true em true er = omega (
+            arith,
+            right-first client key
+                (subst (λ (c : ℕ). reply (early (m .file) (m .table) c) 0 ≡ 0) (eqb-true _ _ em) none) (eqb-true _ _ er),
+          )
+          go true em false er = omega (
+            arith,
+            two-forwards client key
+                (subst (λ (c : ℕ). reply (early (m .file) (m .table) c) 0 ≡ 0) (eqb-true _ _ em) none),
+          )
 
   -- a key that is sent is followed by the adjustment
-  inserting : (client key : ℕ) (payload answer : List ℕ) → (eqb (length answer) 24 && eqb (length payload) 14) ≡ true → reply (early (m .file) (m .table) client) 0 ≡ 0
+  inserting : (client key : ℕ) (payload answer : List ℕ) → (eqb (length answer) 24 && eqb (length payload) 14) ≡ true
+      → reply (early (m .file) (m .table) client) 0 ≡ 0
       → after m (Insert client key payload answer) .table ≡ adjustedTable (m .file) (m .table) client key
   unfolding after left answered
-  inserting client key payload answer fits none = insert-ways (m .file) (m .table) client key payload answer (λ o. o .table ≡ adjustedTable (m .file) (m .table) client key)
-      (λ o r. absurd (r .why (through (m .file) (m .table) (ready .file-sound) _ client key fits none))) (λ w held. refl) (λ w free whole. refl) (λ w free room. refl)
+  inserting client key payload answer fits none = insert-ways (m .file) (m .table) client key payload answer
+      (λ o. o .table ≡ adjustedTable (m .file) (m .table) client key)
+      (λ o r. absurd (r .why (through (m .file) (m .table) (ready .file-sound) _ client key fits none)))
+      (λ w held. refl) (λ w free whole. refl) (λ w free room. refl)
 
-  searching : (client key : ℕ) (answer : List ℕ) → eqb (length answer) 24 ≡ true → reply (early (m .file) (m .table) client) 0 ≡ 0
+  searching : (client key : ℕ) (answer : List ℕ) → eqb (length answer) 24 ≡ true
+      → reply (early (m .file) (m .table) client) 0 ≡ 0
       → after m (Search client key answer) .table ≡ adjustedTable (m .file) (m .table) client key
   unfolding after left answered
-  searching client key answer fits none = search-ways (m .file) (m .table) client key answer (λ o. o .table ≡ adjustedTable (m .file) (m .table) client key)
-      (λ o r. absurd (r .why (through (m .file) (m .table) (ready .file-sound) _ client key fits none))) (λ w held. refl) (λ w absent. refl)
+  searching client key answer fits none = search-ways (m .file) (m .table) client key answer
+      (λ o. o .table ≡ adjustedTable (m .file) (m .table) client key)
+      (λ o r. absurd (r .why (through (m .file) (m .table) (ready .file-sound) _ client key fits none)))
+      (λ w held. refl) (λ w absent. refl)
 
   -- a wrong first send makes the client believe in more, nothing in less unless it joins anew
   module _ (client : ℕ) (there : exists (m .table) client ≡ true) where
-    counted-key : (call : Call) → (call ≡ Join client → ⊥) → (other key : ℕ) → reply (early (m .file) (m .table) other) 0 ≡ 0 → after m call .table ≡ adjustedTable (m .file) (m .table) other key
+    counted-key : (call : Call) → (call ≡ Join client → ⊥) → (other key : ℕ)
+        → reply (early (m .file) (m .table) other) 0 ≡ 0
+        → after m call .table ≡ adjustedTable (m .file) (m .table) other key
         → wrongFirst client m (Key other key) + believed client m ≤ believed client (after m call)
     unfolding wrongFirst believed now image
-    counted-key call old other key none is = go (eqb other client) refl (eqb (address firstBuckets (imageOf (m .table) client) key) (ownOf (m .file) key)) refl
+    counted-key call old other key none is = go (eqb other client) refl
+        (eqb (address firstBuckets (imageOf (m .table) client) key) (ownOf (m .file) key)) refl
       where
-        go : (mine : Bool) → eqb other client ≡ mine → (right : Bool) → eqb (address firstBuckets (imageOf (m .table) client) key) (ownOf (m .file) key) ≡ right
-            → cond (mine && not right) 1 0 + buckets firstBuckets (imageOf (m .table) client) ≤ buckets firstBuckets (imageOf (after m call .table) client)
+        go : (mine : Bool) → eqb other client ≡ mine → (right : Bool)
+            → eqb (address firstBuckets (imageOf (m .table) client) key) (ownOf (m .file) key) ≡ right
+            → cond (mine && not right) 1 0 + buckets firstBuckets (imageOf (m .table) client)
+            ≤ buckets firstBuckets (imageOf (after m call .table) client)
         go false em right er = omega (arith, table-step call .grows client old there)
         go true em true er = omega (arith, table-step call .grows client old there)
         go true em false er = omega (
           arith,
-          wrong-grows client key (passed (m .file) (m .table) client (subst (λ (c : ℕ). reply (early (m .file) (m .table) c) 0 ≡ 0) (eqb-true _ _ em) none)) (eqb-false _ _ er),
-          ap (λ (t : List ℕ). buckets firstBuckets (imageOf t client)) (is ∙ ap (λ (c : ℕ). adjustedTable (m .file) (m .table) c key) (eqb-true _ _ em)),
+          wrong-grows client key
+              (passed (m .file) (m .table) client
+              (subst (λ (c : ℕ). reply (early (m .file) (m .table) c) 0 ≡ 0) (eqb-true _ _ em) none))
+              (eqb-false _ _ er),
+          ap (λ (t : List ℕ). buckets firstBuckets (imageOf t client))
+              (is ∙ ap (λ (c : ℕ). adjustedTable (m .file) (m .table) c key) (eqb-true _ _ em)),
         )
 
-    counted-none : (call : Call) → (call ≡ Join client → ⊥) → wrongFirst client m Nothing + believed client m ≤ believed client (after m call)
+    counted-none : (call : Call) → (call ≡ Join client → ⊥)
+        → wrongFirst client m Nothing + believed client m ≤ believed client (after m call)
     unfolding wrongFirst believed
     counted-none call old = omega (arith, table-step call .grows client old there)
 
-    pub step-counts : (call : Call) → (call ≡ Join client → ⊥) → wrongFirst client m (sent m call) + believed client m ≤ believed client (after m call)
+    pub step-counts : (call : Call) → (call ≡ Join client → ⊥)
+        → wrongFirst client m (sent m call) + believed client m ≤ believed client (after m call)
     unfolding sent
     step-counts (Join other) old = counted-none (Join other) old
-    step-counts (Insert other key payload answer) old = sent-ways (λ s. wrongFirst client m s + believed client m ≤ believed client (after m (Insert other key payload answer))) _ other key
-        (λ fits none. counted-key (Insert other key payload answer) old other key none (inserting other key payload answer fits none)) (counted-none _ old)
-    step-counts (Search other key answer) old = sent-ways (λ s. wrongFirst client m s + believed client m ≤ believed client (after m (Search other key answer))) _ other key
-        (λ fits none. counted-key (Search other key answer) old other key none (searching other key answer fits none)) (counted-none _ old)
+    step-counts (Insert other key payload answer) old = sent-ways
+        (λ s. wrongFirst client m s + believed client m ≤ believed client (after m (Insert other key payload answer))) _
+        other key
+        (λ fits none. counted-key (Insert other key payload answer) old other key none
+        (inserting other key payload answer fits none)) (counted-none _ old)
+    step-counts (Search other key answer) old = sent-ways
+        (λ s. wrongFirst client m s + believed client m ≤ believed client (after m (Search other key answer))) _ other
+        key
+        (λ fits none. counted-key (Search other key answer) old other key none (searching other key answer fits none))
+        (counted-none _ old)
     step-counts Split old = counted-none Split old
     step-counts (Scan other lift visits matches) old = counted-none (Scan other lift visits matches) old
     step-counts Check old = counted-none Check old
@@ -264,11 +358,13 @@ unfolding run AllTyped
 ready-run m ready [] typed = ready
 ready-run m ready (call ∷ calls) typed = ready-run (after m call) (ready-step m ready call (typed .0)) calls (typed .1)
 
-believes-some : (client : ℕ) (m : Memory) → Ready m → exists (m .table) client ≡ true → believed client m ≤ bucketsOf (m .file)
+believes-some : (client : ℕ) (m : Memory) → Ready m → exists (m .table) client ≡ true
+    → believed client m ≤ bucketsOf (m .file)
 unfolding believed
 believes-some client m ready there = omega (arith, ready .none-ahead client there, existing (m .file))
 
-pub wrong-sends : (client : ℕ) (m : Memory) → Ready m → exists (m .table) client ≡ true → (calls : List Call) → AllTyped calls → NotJoined client calls
+pub wrong-sends : (client : ℕ) (m : Memory) → Ready m → exists (m .table) client ≡ true → (calls : List Call)
+    → AllTyped calls → NotJoined client calls
     → summed (wrongFirst client) m calls + believed client m ≤ bucketsOf (run m calls .file)
 unfolding run AllTyped NotJoined summed
 wrong-sends client m ready there [] typed old = omega (arith, believes-some client m ready there)
@@ -276,19 +372,28 @@ wrong-sends client m ready there (call ∷ calls) typed old =
     omega (
       arith,
       step-counts m ready client there call (old .0),
-      wrong-sends client (after m call) (ready-step m ready call (typed .0)) (table-step m ready call .there client ∙ there) calls (typed .1) (old .1),
+      wrong-sends client (after m call) (ready-step m ready call (typed .0))
+          (table-step m ready call .there client ∙ there) calls (typed .1) (old .1),
     )
 
-pub forwards-summed : (client : ℕ) (m : Memory) → Ready m → (calls : List Call) → AllTyped calls → summed (forwardsOf client) m calls ≤ 2 * summed (wrongFirst client) m calls
+pub forwards-summed : (client : ℕ) (m : Memory) → Ready m → (calls : List Call) → AllTyped calls
+    → summed (forwardsOf client) m calls ≤ 2 * summed (wrongFirst client) m calls
 unfolding AllTyped summed
 forwards-summed client m ready [] typed = omega arith
 forwards-summed client m ready (call ∷ calls) typed =
-    omega (arith, forwards-twice m ready client call, forwards-summed client (after m call) (ready-step m ready call (typed .0)) calls (typed .1))
+    omega (
+      arith,
+      forwards-twice m ready client call,
+      forwards-summed client (after m call)
+          (ready-step m ready call (typed .0)) calls (typed .1),
+    )
 
 -- ---- an accepted scan
 
-pub scan-once : (m : Memory) (client lift : ℕ) (visits matches : List ℕ) → replied m (Scan client lift visits matches) ≡ 0
-    → (a : ℕ) → (a < bucketsOf (m .file) → times a (visited m client lift visits matches) ≡ 1) × (bucketsOf (m .file) ≤ a → times a (visited m client lift visits matches) ≡ 0)
+pub scan-once : (m : Memory) (client lift : ℕ) (visits matches : List ℕ)
+    → replied m (Scan client lift visits matches) ≡ 0
+    → (a : ℕ) → (a < bucketsOf (m .file) → times a (visited m client lift visits matches) ≡ 1)
+    × (bucketsOf (m .file) ≤ a → times a (visited m client lift visits matches) ≡ 0)
 unfolding replied visited answered
 scan-once m client lift visits matches done a = (
   scan-visits-once (m .file) (m .table) client lift visits matches done a,

@@ -12,7 +12,8 @@ use Rattle.file.specs.File.Split.{split-reply, split-ways}
 use Rattle.ride.specs.Call.{Outcome, adjustedTable, search, insert}
 use Rattle.ride.specs.Call.Left.{Refused, search-reply, insert-reply, search-ways, insert-ways}
 use Rattle.scan.specs.Scan.Replied.{scan-reply}
-use Rattle.demands.specs.Run.{Memory, Call, Join, Insert, Search, Split, Scan, Check, View, Parent, left, after, replied, answered, conditions}
+use Rattle.demands.specs.Run.{Memory, Call, Join, Insert, Search, Split, Scan, Check, View, Parent, left, after}
+use Rattle.demands.specs.Run.{replied, answered, conditions}
 
 pub call-replies : (m : Memory) (call : Call) → replied m call ≡ reply (conditions m call) 0
 unfolding replied conditions answered
@@ -26,25 +27,32 @@ call-replies m (View bucket) = sym (reply-none 0)
 call-replies m (Parent bucket) = sym (reply-none 0)
 
 -- a refusal before the key's own bucket leaves the memory
-refused-left : (m : Memory) (fits : Bool) (client key : ℕ) (answer : List ℕ) (o : Outcome) → Refused fits (m .file) (m .table) client key answer o → left o ≡ m
+refused-left : (m : Memory) (fits : Bool) (client key : ℕ) (answer : List ℕ) (o : Outcome)
+    → Refused fits (m .file) (m .table) client key answer o → left o ≡ m
 unfolding left
 refused-left m fits client key answer o r = λ i. record { file = r .file-left i; table = r .table-left i }
 
 -- a refusal but 8 and 9 leaves file and table
-pub call-untouched : (m : Memory) (call : Call) → 1 < replied m call → (replied m call ≡ 8 → ⊥) → (replied m call ≡ 9 → ⊥) → after m call ≡ m
+pub call-untouched : (m : Memory) (call : Call) → 1 < replied m call → (replied m call ≡ 8 → ⊥)
+    → (replied m call ≡ 9 → ⊥) → after m call ≡ m
 unfolding replied after left answered
-call-untouched m (Join client) some eight nine = join-ways (λ o. 1 < o .answer → record { file = m .file; table = o .table } ≡ m) (m .table) client
+call-untouched m (Join client) some eight nine = join-ways
+    (λ o. 1 < o .answer → record { file = m .file; table = o .table } ≡ m) (m .table) client
     (λ r e not-zero h. refl) (λ e h. absurd (omega (arith, h))) some
-call-untouched m (Insert client key payload answer) some eight nine = insert-ways (m .file) (m .table) client key payload answer
+call-untouched m (Insert client key payload answer) some eight nine = insert-ways (m .file) (m .table) client key
+    payload answer
     (λ o. 1 < o .answer → (o .answer ≡ 8 → ⊥) → (o .answer ≡ 9 → ⊥) → left o ≡ m)
     (λ o r h e n. refused-left m _ client key answer o r)
     (λ w held h e n. absurd (e refl))
     (λ w free full h e n. absurd (n refl))
     (λ w free room h e n. absurd (omega (arith, h)))
     some eight nine
-call-untouched m (Search client key answer) some eight nine = search-ways (m .file) (m .table) client key answer (λ o. 1 < o .answer → left o ≡ m)
-    (λ o r h. refused-left m _ client key answer o r) (λ w held h. absurd (omega (arith, h))) (λ w absent h. absurd (omega (arith, h))) some
-call-untouched m Split some eight nine = split-ways (m .file) (λ o. 1 < o .answer → record { file = o .file; table = m .table } ≡ m)
+call-untouched m (Search client key answer) some eight nine = search-ways (m .file) (m .table) client key answer
+    (λ o. 1 < o .answer → left o ≡ m)
+    (λ o r h. refused-left m _ client key answer o r) (λ w held h. absurd (omega (arith, h)))
+    (λ w absent h. absurd (omega (arith, h))) some
+call-untouched m Split some eight nine = split-ways (m .file)
+    (λ o. 1 < o .answer → record { file = o .file; table = m .table } ≡ m)
     (λ r a h some. refl) (λ h l some. absurd (omega (arith, some))) some
 call-untouched m (Scan client lift visits matches) some eight nine = refl
 call-untouched m Check some eight nine = refl
@@ -54,23 +62,30 @@ call-untouched m (Parent bucket) some eight nine = refl
 -- 8 and 9 leave the file, and the image as the adjustment says
 pub insert-adjusted : (m : Memory) (client key : ℕ) (payload answer : List ℕ)
     → (replied m (Insert client key payload answer) ≡ 8) ⊎ (replied m (Insert client key payload answer) ≡ 9)
-    → after m (Insert client key payload answer) ≡ record { file = m .file; table = adjustedTable (m .file) (m .table) client key }
+    → after m (Insert client key payload answer)
+    ≡ record { file = m .file; table = adjustedTable (m .file) (m .table) client key }
 unfolding replied after left answered
 insert-adjusted m client key payload answer = insert-ways (m .file) (m .table) client key payload answer
-    (λ o. (o .answer ≡ 8) ⊎ (o .answer ≡ 9) → left o ≡ record { file = m .file; table = adjustedTable (m .file) (m .table) client key })
+    (λ o. (o .answer ≡ 8) ⊎ (o .answer ≡ 9)
+    → left o ≡ record { file = m .file; table = adjustedTable (m .file) (m .table) client key })
     (λ o r which. absurd (⊎-elim (r .before .0) (r .before .1) which))
     (λ w held which. refl)
     (λ w free full which. refl)
     (λ w free room which. absurd (⊎-elim (λ e. omega (arith, e)) (λ e. omega (arith, e)) which))
 
 -- 14 touches nothing: not the answer block either
-pub insert-untouched : (m : Memory) (client key : ℕ) (payload answer : List ℕ) → replied m (Insert client key payload answer) ≡ 14
+pub insert-untouched : (m : Memory) (client key : ℕ) (payload answer : List ℕ)
+    → replied m (Insert client key payload answer) ≡ 14
     → insert (m .file) (m .table) client key payload answer .block ≡ answer
 unfolding replied answered
-insert-untouched m client key payload answer = insert-ways (m .file) (m .table) client key payload answer (λ o. o .answer ≡ 14 → o .block ≡ answer)
-    (λ o r. r .block-left) (λ w held e. absurd (omega (arith, e))) (λ w free full e. absurd (omega (arith, e))) (λ w free room e. absurd (omega (arith, e)))
+insert-untouched m client key payload answer = insert-ways (m .file) (m .table) client key payload answer
+    (λ o. o .answer ≡ 14 → o .block ≡ answer)
+    (λ o r. r .block-left) (λ w held e. absurd (omega (arith, e))) (λ w free full e. absurd (omega (arith, e)))
+    (λ w free room e. absurd (omega (arith, e)))
 
-pub search-untouched : (m : Memory) (client key : ℕ) (answer : List ℕ) → replied m (Search client key answer) ≡ 14 → search (m .file) (m .table) client key answer .block ≡ answer
+pub search-untouched : (m : Memory) (client key : ℕ) (answer : List ℕ) → replied m (Search client key answer) ≡ 14
+    → search (m .file) (m .table) client key answer .block ≡ answer
 unfolding replied answered
-search-untouched m client key answer = search-ways (m .file) (m .table) client key answer (λ o. o .answer ≡ 14 → o .block ≡ answer)
+search-untouched m client key answer = search-ways (m .file) (m .table) client key answer
+    (λ o. o .answer ≡ 14 → o .block ≡ answer)
     (λ o r. r .block-left) (λ w held e. absurd (omega (arith, e))) (λ w absent e. absurd (omega (arith, e)))

@@ -51,7 +51,8 @@ returns c =
     let d = c .before .before .before .before .before .before .before .before .before in
     let a = d .args in
     let h = c .before .before .before .before .before .before .put-head in
-    closing (a .slots) (a .at) (a .count) (h .last .0) (c .before .before .clear .last .0) (omega (arith, h .kept, d .pre .0)) (d .pre .1) (c .before .before .clear .ensures)
+    closing (a .slots) (a .at) (a .count) (h .last .0) (c .before .before .clear .last .0)
+    (omega (arith, h .kept, d .pre .0)) (d .pre .1) (c .before .before .clear .ensures)
     ∙ ap (edit (a .at + slotAt (a .count)) (replicate {A = ℕ} (24 * (a .slots - a .count)) 0)) (h .ensures)
 
 pub close-spec : {M : Type 1} → statement M

@@ -49,9 +49,12 @@ returns c =
     c .before .before .put83 .ensures
     ∙ ap₂ (λ (v : ℕ) (l : List ℕ). edit (a .to + 16) (leBytes 8 v) l) (m .before .before .read83 .ensures)
     (c .before .before .before .before .before .before .put82 .ensures
-    ∙ ap₂ (λ (v : ℕ) (l : List ℕ). edit (a .to + 8) (leBytes 8 v) l) (m .before .before .before .before .read82 .ensures)
-    (m .put8 .ensures ∙ ap (λ (v : ℕ). edit (a .to) (leBytes 8 v) (a .bytes .now)) (m .before .before .before .before .before .before .read8 .ensures)))
-    ∙ copied (a .from) (a .to) (a .bytes .now) (λ (k : ℕ). r .slice-known .given k .fits) (r .before .pre .0) (r .before .pre .1)
+    ∙ ap₂ (λ (v : ℕ) (l : List ℕ). edit (a .to + 8) (leBytes 8 v) l)
+    (m .before .before .before .before .read82 .ensures)
+    (m .put8 .ensures ∙ ap (λ (v : ℕ). edit (a .to) (leBytes 8 v) (a .bytes .now))
+    (m .before .before .before .before .before .before .read8 .ensures)))
+    ∙ copied (a .from) (a .to) (a .bytes .now) (λ (k : ℕ). r .slice-known .given k .fits) (r .before .pre .0)
+    (r .before .pre .1)
 
 pub copy-slot-spec : {M : Type 1} → statement M
 copy-slot-spec =

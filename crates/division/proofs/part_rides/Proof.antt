@@ -10,12 +10,14 @@ use Rattle.address.specs.Rules.{hash, keeps}
 use Rattle.address.specs.Rules.Cases.{keeps-is}
 use Rattle.layout.specs.Bytes.{edit, part}
 use Rattle.bucket.specs.Region.{slotAt, keyAt}
-use Rattle.bucket.specs.Region.Divide.{Parted, one-at-most, parted-none, parted-key, parted-again, parted-more, parted-done}
+use Rattle.bucket.specs.Region.Divide.{Parted, one-at-most, parted-none, parted-key, parted-again, parted-more}
+use Rattle.bucket.specs.Region.Divide.{parted-done}
 use Rattle.division.proofs.part_rides.Statement.{statement}
 use Rattle.division.proofs.part_rides.Tie as tie
 
 abbrev Inv-loop : tie.InvT-loop
-Inv-loop bytes₀ old new slots count first home level stay₀ k₀ bytes stay k = Parted (keeps first home level) bytes₀ slots old new count k stay bytes
+Inv-loop bytes₀ old new slots count first home level stay₀ k₀ bytes stay k = Parted (keeps first home level) bytes₀
+    slots old new count k stay bytes
 
 abbrev μ-loop : tie.MeasureT-loop
 μ-loop bytes₀ old new slots count first home level stay₀ k₀ bytes stay k = count - k
@@ -76,7 +78,9 @@ chosen-requires c κs = search needs
 add-stay : tie.Need-add-stay Inv-loop μ-loop
 add-stay c =
     let h = c .before .before .before .before .before .before .before .before .before in
-    let few : c .chosen .result ≤ 1 = one-at-most (eqb (h .hash .result) (h .before .before .before .before .before .before .args .home)) _ (c .chosen .ensures) in
+    let few : c .chosen .result
+    ≤ 1 = one-at-most (eqb (h .hash .result) (h .before .before .before .before .before .before .args .home)) _
+    (c .chosen .ensures) in
     record { fits = omega arith }
 
 add-k : tie.Need-add-k Inv-loop μ-loop
@@ -95,14 +99,23 @@ loop-again c =
     let own = keeps (a .first) (a .home) (a .level) in
     let more = r .before .before .loop-test .taken in
     let at = a .old + (8 + 24 * l .k) in
-    let key = parted-key own (a .bytes .now) (a .slots) (a .old) (a .new) (a .count) (e .pre .1) (l .k) (l .stay) (l .bytes) (l .inv) more (r .read8 .result) (r .read8 .ensures) in
-    let again = parted-again own (a .bytes .now) (a .slots) (a .old) (a .new) (a .count) (e .pre .1) (l .k) (l .stay) (l .bytes) (l .inv) more in
-    subst (λ (bytes : List ℕ). Parted own (a .bytes .now) (a .slots) (a .old) (a .new) (a .count) (l .k + 1) (l .stay + c .chosen .result) bytes)
+    let key = parted-key own (a .bytes .now) (a .slots) (a .old) (a .new) (a .count) (e .pre .1) (l .k) (l .stay)
+    (l .bytes) (l .inv) more (r .read8 .result) (r .read8 .ensures) in
+    let again = parted-again own (a .bytes .now) (a .slots) (a .old) (a .new) (a .count) (e .pre .1) (l .k) (l .stay)
+    (l .bytes) (l .inv) more in
+    subst
+    (λ (bytes : List ℕ). Parted own (a .bytes .now) (a .slots) (a .old) (a .new) (a .count) (l .k + 1)
+    (l .stay + c .chosen .result) bytes)
     (sym (c .before .before .before .copy-slot2 .ensures
     ∙ ap (λ (bytes : List ℕ). edit (a .old + (8 + 24 * l .stay)) (part at 24 bytes) bytes) (m .copy-slot .ensures)
-    ∙ ap (λ (slot : List ℕ). edit (a .old + (8 + 24 * l .stay)) slot (edit (a .new + (8 + 24 * (l .k - l .stay))) (part at 24 (l .bytes)) (l .bytes))) again))
-    (parted-more own (a .bytes .now) (a .slots) (a .old) (a .new) (a .count) (e .pre .1) (l .k) (l .stay) (l .bytes) (l .inv) more (c .chosen .result)
-    (c .chosen .ensures ∙ ap (λ (b : Bool). cond b 1 0) (ap (λ (h : ℕ). eqb h (a .home)) (m .before .before .hash .ensures .0 ∙ ap (hash (a .first) (a .level)) key) ∙ sym (keeps-is (a .first) (a .home) (a .level) (keyAt (part (a .old) (slotAt (a .slots)) (a .bytes .now)) (l .k))))))
+    ∙ ap (λ (slot : List ℕ). edit (a .old + (8 + 24 * l .stay)) slot
+    (edit (a .new + (8 + 24 * (l .k - l .stay))) (part at 24 (l .bytes)) (l .bytes))) again))
+    (parted-more own (a .bytes .now) (a .slots) (a .old) (a .new) (a .count) (e .pre .1) (l .k) (l .stay) (l .bytes)
+    (l .inv) more (c .chosen .result)
+    (c .chosen .ensures ∙ ap (λ (b : Bool). cond b 1 0)
+    (ap (λ (h : ℕ). eqb h (a .home)) (m .before .before .hash .ensures .0 ∙ ap (hash (a .first) (a .level)) key)
+    ∙ sym
+    (keeps-is (a .first) (a .home) (a .level) (keyAt (part (a .old) (slotAt (a .slots)) (a .bytes .now)) (l .k))))))
 
 same-length : tie.Need-same-length Inv-loop μ-loop
 same-length c = search needs
@@ -112,7 +125,8 @@ returns c =
     let d = c .before .before .before in
     let a = d .args in
     let l = c .before .loop in
-    parted-done (keeps (a .first) (a .home) (a .level)) (a .bytes .now) (a .slots) (a .old) (a .new) (a .count) (d .pre .1) (l .k) (l .stay) (l .bytes) (l .inv) (c .loop-test .left)
+    parted-done (keeps (a .first) (a .home) (a .level)) (a .bytes .now) (a .slots) (a .old) (a .new) (a .count)
+    (d .pre .1) (l .k) (l .stay) (l .bytes) (l .inv) (c .loop-test .left)
 
 pub part-rides-spec : {M : Type 1} → statement M
 part-rides-spec =

@@ -6,6 +6,10 @@ use Rattle.file.specs.File.Judge.{ranges, figures-out, figures-in}
 use Rattle.file.specs.File.Region.{place-room}
 use Rattle.file.proofs.figures_fit.Statement.{statement}
 use Rattle.file.proofs.figures_fit.Tie as tie
+use borrow.Author.Needs.{needs}
+
+cast-ranged : tie.Need-cast-ranged
+cast-ranged c = search needs
 
 returns : tie.Need-returns
 returns c =
@@ -43,4 +47,5 @@ returns-2 c =
 
 pub figures-fit-spec : {M : Type 1} → statement M
 figures-fit-spec =
-    tie.close (tie.spec returns mul-result add-result mul-result-2 add-result-2 returns-2)
+    tie.close
+    (tie.spec cast-ranged returns mul-result add-result mul-result-2 add-result-2 returns-2)

@@ -4,7 +4,8 @@ use native.Mathlib.Omega.{arith}
 use borrow.Author.Tests.{not-true, not-false}
 use Rattle.layout.specs.Bytes.Edit.{part-is}
 use Rattle.layout.specs.Bytes.{allZero}
-use Rattle.file.specs.File.Judge.{header-unsound, judged-short, judged-fixed, judged-figures, judged-few, judged-state, judged-header}
+use Rattle.file.specs.File.Judge.{header-unsound, judged-short, judged-fixed, judged-figures, judged-few}
+use Rattle.file.specs.File.Judge.{judged-state, judged-header}
 use borrow.Author.Needs.{needs}
 use Rattle.file.proofs.header_of.Statement.{statement}
 use Rattle.file.proofs.header_of.Tie as tie
@@ -52,8 +53,16 @@ no-header-requires-2 c κs = search needs
 
 returns-2 : tie.Need-returns-2
 returns-2 c =
-    let a = c .before .before .before .before .before .before .before .before .before .before .before .before .before .args in
-    c .no-header2 .ensures ∙ header-unsound (a .file .now) (judged-fixed (a .file .now) (c .before .before .before .before .before .before .before .before .before .before .before .if1 .left) (c .before .before .before .before .has-mark .result) (c .before .before .is-zero .result) (c .before .before .before .before .has-mark .ensures) (c .before .before .is-zero .ensures ∙ ap allZero (sym (part-is 9 7 (a .file .now)))) (not-true _ (c .before .if2 .taken)))
+    let a =
+    c .before .before .before .before .before .before .before .before .before .before .before .before .before .args
+    in
+    c .no-header2 .ensures ∙ header-unsound (a .file .now)
+    (judged-fixed (a .file .now)
+    (c .before .before .before .before .before .before .before .before .before .before .before .if1 .left)
+    (c .before .before .before .before .has-mark .result) (c .before .before .is-zero .result)
+    (c .before .before .before .before .has-mark .ensures)
+    (c .before .before .is-zero .ensures ∙ ap allZero (sym (part-is 9 7 (a .file .now))))
+    (not-true _ (c .before .if2 .taken)))
 
 figures-fit-requires : tie.Need-figures-fit-requires
 figures-fit-requires c κs = search needs

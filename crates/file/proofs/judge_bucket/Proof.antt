@@ -7,6 +7,7 @@ use Rattle.bucket.specs.Region.{soundWith, slotOf}
 use Rattle.address.specs.Rules.{keeps}
 use Rattle.file.specs.File.Region.{known-cut, known-fits, known-long, known-level, known-judged}
 use borrow.Author.Needs.{needs}
+use Rattle.address.specs.Limits.{firstBuckets}
 use Rattle.file.proofs.judge_bucket.Statement.{statement}
 use Rattle.file.proofs.judge_bucket.Tie as tie
 
@@ -38,15 +39,20 @@ part-judge-end : tie.Need-part-judge-end
 part-judge-end c =
     let d = c .before .before .before in
     let a = d .args in
-    known-fits (a .file .now) (a .header) (d .pre .0) (a .bucket) (c .before .start .result) (c .before .start .ensures .0) (omega arith)
+    known-fits (a .file .now) (a .header) (d .pre .0) (a .bucket) (c .before .start .result)
+    (c .before .start .ensures .0) (omega arith)
 
 judge-requires : tie.Need-judge-requires
 judge-requires c κs =
     let d = c .before .before .before .before in
     let a = d .args in
     let l = c .before .level-of in
-    let s = c .before .before .start in
-    (known-level (a .file .now) (a .header) (d .pre .0) (a .bucket) (l .result) (d .pre .1) (l .ensures), known-long (a .file .now) (a .header) (d .pre .0) (a .bucket) (s .result) (s .ensures .0) (omega arith), omega arith)
+    let s = c .before .before .start in (
+      known-level (a .file .now) (a .header) (d .pre .0) (a .bucket) (l .result) (d .pre .1) (l .ensures),
+      known-long
+          (a .file .now) (a .header) (d .pre .0) (a .bucket) (s .result) (s .ensures .0) (omega arith),
+      omega arith,
+    )
 
 returns : tie.Need-returns
 returns c =
@@ -56,7 +62,7 @@ returns c =
     let s = c .before .before .before .start in
     let cut = known-cut (a .file .now) (a .header) (d .pre .0) (a .bucket) (s .result) (s .ensures .0) in (
       c .judge .ensures .0
-          ∙ ap (soundWith (a .header .slots) (l .result) (keeps 1 (a .bucket) (l .result))) cut
+          ∙ ap (soundWith (a .header .slots) (l .result) (keeps firstBuckets (a .bucket) (l .result))) cut
           ∙ known-judged (a .file .now) (a .header) (d .pre .0) (a .bucket) (l .result) (d .pre .1) (l .ensures),
       λ e. c .judge .ensures .1 e ∙ ap (λ (region : List ℕ). slotOf region (a .key)) cut,
     )

@@ -34,15 +34,18 @@ part-key-at-end : tie.Need-part-key-at-end
 part-key-at-end c =
     let d = c .before .before in
     let a = d .args in
-    known-fits (a .file .now) (a .header) (d .pre .0) (a .bucket) (c .start .result) (c .start .ensures .0) (omega (arith, d .pre .1, d .pre .0 .ranges .few))
+    known-fits (a .file .now) (a .header) (d .pre .0) (a .bucket) (c .start .result) (c .start .ensures .0)
+    (omega (arith, d .pre .1, d .pre .0 .ranges .few))
 
 key-at-requires : tie.Need-key-at-requires
 key-at-requires c κs =
     let d = c .before .before .before in
     let a = d .args in
     let s = c .before .start in
-    let long = known-long (a .file .now) (a .header) (d .pre .0) (a .bucket) (s .result) (s .ensures .0) (omega (arith, d .pre .1, d .pre .0 .ranges .few)) in
-    let few : a .slot < a .header .slots = omega (arith, sound-few (a .file .now) (a .bucket) (d .pre .2), d .pre .3, d .pre .0 .slots) in
+    let long = known-long (a .file .now) (a .header) (d .pre .0) (a .bucket) (s .result) (s .ensures .0)
+    (omega (arith, d .pre .1, d .pre .0 .ranges .few)) in
+    let few : a .slot < a .header .slots = omega
+    (arith, sound-few (a .file .now) (a .bucket) (d .pre .2), d .pre .3, d .pre .0 .slots) in
     (omega (arith, long, few), omega (arith, few, d .pre .0 .slots, d .pre .0 .ranges .figured .few-slots))
 
 returns : tie.Need-returns
@@ -50,7 +53,8 @@ returns c =
     let d = c .before .before .before .before in
     let a = d .args in
     let s = c .before .before .start in
-    c .key-at .ensures ∙ ap (λ (region : List ℕ). keyAt region (a .slot)) (known-cut (a .file .now) (a .header) (d .pre .0) (a .bucket) (s .result) (s .ensures .0))
+    c .key-at .ensures ∙ ap (λ (region : List ℕ). keyAt region (a .slot))
+    (known-cut (a .file .now) (a .header) (d .pre .0) (a .bucket) (s .result) (s .ensures .0))
 
 pub key-in-spec : {M : Type 1} → statement M
 key-in-spec =

@@ -36,7 +36,8 @@ part-place-start c = search needs
 part-place-end : tie.Need-part-place-end
 part-place-end c =
     let b = c .before .before .before in
-    known-fits (b .args .file .now) (b .args .header) (b .pre .0) (b .args .bucket) (c .start .result) (c .start .ensures .0) (omega (arith, b .pre .1, b .pre .0 .ranges .few))
+    known-fits (b .args .file .now) (b .args .header) (b .pre .0) (b .args .bucket) (c .start .result)
+    (c .start .ensures .0) (omega (arith, b .pre .1, b .pre .0 .ranges .few))
 
 place-requires : tie.Need-place-requires
 place-requires c κs = search needs
@@ -54,13 +55,29 @@ returns c =
     let n : ℕ = at + (8 + 24 * a .header .slots) - at in
     let head : at ≡ startOf (a .header .slots) (a .bucket) = c .before .before .before .before .start .ensures .0 in
     let room : n ≤ length (drop at (a .file .now)) =
-    omega (arith, length-drop at (a .file .now), known-fits (a .file .now) (a .header) seen (a .bucket) at head (omega (arith, b .pre .1, seen .ranges .few))) in
+    omega (
+      arith,
+      length-drop at (a .file .now),
+      known-fits (a .file .now) (a .header) seen (a .bucket) at head
+          (omega (arith, b .pre .1, seen .ranges .few)),
+    ) in
     let ride : Ride = record { key = a .key; payload = a .payload .now } in
-    let whole : Whole ride = record { small = b .fits .key .fits; long = b .pre .5; bytes = λ k. c .before .before .before .before .before .shared-slice-known .given k .fits } in (
+    let whole : Whole ride =
+    record {
+      small = b .fits .key .fits;
+      long = b .pre .5;
+      bytes = λ k.
+          c .before .before .before .before .before .shared-slice-known .given k .fits;
+    } in (
       placed .ensures .0,
-      with-lent (a .file .now) (placed .last .0) (a .bucket) at n (head ∙ ap (λ (S : ℕ). startOf S (a .bucket)) (seen .slots)) (sym (placed .kept .0 ∙ length-take-le n (drop at (a .file .now)) room))
-          ∙ ride-placed (a .file .now) (a .header) seen (λ k. c .before .before .before .before .before .before .slice-known .given k .fits) (a .bucket) (b .pre .1) (b .pre .2) ride whole (a .count) (b .pre .3) (b .pre .4)
-          (take n (drop at (a .file .now))) (placed .last .0) (known-cut (a .file .now) (a .header) seen (a .bucket) at head) (placed .ensures .1),
+      with-lent (a .file .now) (placed .last .0) (a .bucket) at n
+          (head ∙ ap (λ (S : ℕ). startOf S (a .bucket)) (seen .slots))
+          (sym (placed .kept .0 ∙ length-take-le n (drop at (a .file .now)) room))
+          ∙ ride-placed (a .file .now) (a .header) seen
+          (λ k. c .before .before .before .before .before .before .slice-known .given k .fits) (a .bucket)
+          (b .pre .1) (b .pre .2) ride whole (a .count) (b .pre .3) (b .pre .4)
+          (take n (drop at (a .file .now))) (placed .last .0)
+          (known-cut (a .file .now) (a .header) seen (a .bucket) at head) (placed .ensures .1),
     )
 
 pub place-ride-spec : {M : Type 1} → statement M

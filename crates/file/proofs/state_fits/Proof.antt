@@ -23,7 +23,8 @@ cast-result c = search needs
 returns-2 : tie.Need-returns-2
 returns-2 c =
     let a = c .before .before .before .before .before .args in
-    state-is (a .state) (a .most) (c .before .before .span .result) (c .before .buckets .result) (c .before .before .span .ensures .0) (c .before .buckets .ensures)
+    state-is (a .state) (a .most) (c .before .before .span .result) (c .before .buckets .result)
+    (c .before .before .span .ensures .0) (c .before .buckets .ensures)
 
 pub state-fits-spec : {M : Type 1} → statement M
 state-fits-spec = tie.close (tie.spec returns span-requires buckets-requires cast-result returns-2)

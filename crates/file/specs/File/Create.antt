@@ -8,7 +8,8 @@ use mathlib.Core.Logic.{by-cases}
 use native.Mathlib.Decide.{decLt}
 use native.Mathlib.Omega.{arith}
 use borrow.Author.Tests.{le-leb}
-use lib.ListN.{length, getD, take, drop, set, replicate, length-append, length-replicate, getD-replicate, List·getD-eq-default, replicate-append-replicate}
+use lib.ListN.{length, getD, take, drop, set, replicate, length-append, length-replicate, getD-replicate}
+use lib.ListN.{List·getD-eq-default, replicate-append-replicate}
 use lib.Seq.{take-at, drop-at, getD-append-add}
 use Rattle.address.specs.Limits.{firstBuckets}
 use Rattle.address.specs.declared.Image.{Image}
@@ -23,7 +24,9 @@ use Rattle.layout.specs.Replies.{refuse, reply, reply-none, reply-here, reply-p
 use Rattle.bucket.specs.Region.{slotAt, bucketSound, encode}
 use Rattle.bucket.specs.Region.Sound.{empty-sound}
 use Rattle.bucket.specs.Region.Encode.{length-encode}
-use Rattle.file.specs.File.{fileMark, mostOf, stateOf, fileLength, figuresFit, stateFits, bucketsOf, headerSound, startOf, regionOf, bucketSoundIn, regionSound, fileSound, headerBytes, created, Created, create}
+use Rattle.file.specs.File.{fileMark, mostOf, stateOf, fileLength, figuresFit, stateFits, bucketsOf, headerSound}
+use Rattle.file.specs.File.{startOf, regionOf, bucketSoundIn, regionSound, fileSound, headerBytes, created}
+use Rattle.file.specs.File.{Created, create}
 use Rattle.file.specs.File.Region.{region-is, region-within, region-bucket, region-past}
 use Rattle.file.specs.File.Judge.{Figures, figures, figures-back, state-back}
 
@@ -40,12 +43,17 @@ zeros-split n m = sym (replicate-append-replicate n m 0)
 
 -- the header, written over zeros
 pub header-written : (b S M m : ℕ)
-    → set (edit 6 (leBytes 2 M) (set (edit 0 fileMark (replicate (16 + m) 0)) 3 b)) 8 S ≡ headerBytes («at» 0 0) b S M ++ replicate m 0
+    → set (edit 6 (leBytes 2 M) (set (edit 0 fileMark (replicate (16 + m) 0)) 3 b)) 8 S
+    ≡ headerBytes («at» 0 0) b S M ++ replicate m 0
 unfolding headerBytes
 header-written b S M m = rw (leBytes-two M, leBytes-two 0)
-    (ap (λ (l : List ℕ). set (edit 6 (M % 256 ∷ M / 256 % 256 ∷ []) (set (edit 0 fileMark l) 3 b)) 8 S) (zeros-split 16 m)
-    ∙ ap (λ (l : List ℕ). set (edit 6 (M % 256 ∷ M / 256 % 256 ∷ []) (set l 3 b)) 8 S) (edit-seam [] fileMark (replicate 16 0 ++ replicate m 0) 0 refl)
-    ∙ ap (λ (l : List ℕ). set l 8 S) (edit-seam (76 ∷ 70 ∷ 0 ∷ b ∷ 0 ∷ 0 ∷ []) (M % 256 ∷ M / 256 % 256 ∷ []) (replicate 10 0 ++ replicate m 0) 6 refl))
+    (ap (λ (l : List ℕ). set (edit 6 (M % 256 ∷ M / 256 % 256 ∷ []) (set (edit 0 fileMark l) 3 b)) 8 S)
+    (zeros-split 16 m)
+    ∙ ap (λ (l : List ℕ). set (edit 6 (M % 256 ∷ M / 256 % 256 ∷ []) (set l 3 b)) 8 S)
+    (edit-seam [] fileMark (replicate 16 0 ++ replicate m 0) 0 refl)
+    ∙ ap (λ (l : List ℕ). set l 8 S)
+    (edit-seam (76 ∷ 70 ∷ 0 ∷ b ∷ 0 ∷ 0 ∷ []) (M % 256 ∷ M / 256 % 256 ∷ []) (replicate 10 0 ++ replicate m 0) 6
+    refl))
 
 pub length-header : (b S M : ℕ) → length (headerBytes («at» 0 0) b S M) ≡ 16
 unfolding headerBytes
@@ -53,7 +61,8 @@ length-header b S M = rw (leBytes-two 0, leBytes-two M)
 
 -- one region and the others
 one-region : (S M : ℕ) → 1 ≤ M → M * (8 + 24 * S) ≡ 8 + 24 * S + (M - 1) * (8 + 24 * S)
-one-region S M some = ap (λ (m : ℕ). m * (8 + 24 * S)) one ∙ suc-mul (M - 1) (8 + 24 * S) ∙ add-comm ((M - 1) * (8 + 24 * S)) (8 + 24 * S)
+one-region S M some = ap (λ (m : ℕ). m * (8 + 24 * S)) one ∙ suc-mul (M - 1) (8 + 24 * S)
+    ∙ add-comm ((M - 1) * (8 + 24 * S)) (8 + 24 * S)
   where
     one : M ≡ suc (M - 1)
     one = omega arith
@@ -66,11 +75,11 @@ module _ (b S M : ℕ) (file : List ℕ) (fits : Figures (length file) b S M) wh
   pub create-room : 16 + (8 + 24 * S) ≤ length file
   create-room = omega (arith, fits .whole, all)
 
-  pub created-bytes : (cleared headed region : List ℕ) → cleared ≡ replicate (length file) 0
+  pub created-written : (cleared headed region : List ℕ) → cleared ≡ replicate (length file) 0
       → headed ≡ set (edit 6 (leBytes 2 M) (set (edit 0 fileMark cleared) 3 b)) 8 S → region ≡ encode S 0 []
       → take 16 headed ++ (region ++ drop (16 + (8 + 24 * S) - 16) (drop 16 headed)) ≡ created b S M
   unfolding created
-  created-bytes cleared headed region ec eh er =
+  created-written cleared headed region ec eh er =
       ap₂ (λ (l r : List ℕ). take 16 l ++ (r ++ drop (16 + (8 + 24 * S) - 16) (drop 16 l))) whole er
       ∙ ap₂ (λ (h z : List ℕ). h ++ (encode S 0 [] ++ z)) (take-at head tail 16 (length-header b S M))
       (ap (drop (16 + (8 + 24 * S) - 16)) (drop-at head tail 16 (length-header b S M)) ∙ less)
@@ -82,30 +91,37 @@ module _ (b S M : ℕ) (file : List ℕ) (fits : Figures (length file) b S M) wh
       tail = zeros (M * (8 + 24 * S))
 
       whole : headed ≡ headerBytes («at» 0 0) b S M ++ zeros (M * (8 + 24 * S))
-      whole = eh ∙ ap (λ (l : List ℕ). set (edit 6 (leBytes 2 M) (set (edit 0 fileMark l) 3 b)) 8 S) (ec ∙ ap zeros (fits .whole)) ∙ header-written b S M (M * (8 + 24 * S))
+      whole = eh ∙ ap (λ (l : List ℕ). set (edit 6 (leBytes 2 M) (set (edit 0 fileMark l) 3 b)) 8 S)
+          (ec ∙ ap zeros (fits .whole)) ∙ header-written b S M (M * (8 + 24 * S))
 
       less : drop (16 + (8 + 24 * S) - 16) tail ≡ zeros ((M - 1) * (8 + 24 * S))
-      less = ap₂ (λ (n m : ℕ). drop n (zeros m)) wide all ∙ ap (drop (8 + 24 * S)) (zeros-split (8 + 24 * S) ((M - 1) * (8 + 24 * S)))
-          ∙ drop-at (zeros (8 + 24 * S)) (zeros ((M - 1) * (8 + 24 * S))) (8 + 24 * S) (length-replicate {A = ℕ} (8 + 24 * S) 0)
+      less = ap₂ (λ (n m : ℕ). drop n (zeros m)) wide all
+          ∙ ap (drop (8 + 24 * S)) (zeros-split (8 + 24 * S) ((M - 1) * (8 + 24 * S)))
+          ∙ drop-at (zeros (8 + 24 * S)) (zeros ((M - 1) * (8 + 24 * S))) (8 + 24 * S)
+          (length-replicate {A = ℕ} (8 + 24 * S) 0)
         where
           wide : 16 + (8 + 24 * S) - 16 ≡ 8 + 24 * S
           wide = omega arith
 
 -- create, by its cases
-pub create-refused : (file : List ℕ) (b S M : ℕ) → figuresFit (length file) b S M ≡ false → record { answer = 13; file = file } ≡ create file b S M
+pub create-refused : (file : List ℕ) (b S M : ℕ) → figuresFit (length file) b S M ≡ false
+    → record { answer = 13; file = file } ≡ create file b S M
 unfolding create
 create-refused file b S M h = rw h
 
-pub create-done : (file after : List ℕ) (b S M : ℕ) → figuresFit (length file) b S M ≡ true → after ≡ created b S M → record { answer = 0; file = after } ≡ create file b S M
+pub create-done : (file after : List ℕ) (b S M : ℕ) → figuresFit (length file) b S M ≡ true → after ≡ created b S M
+    → record { answer = 0; file = after } ≡ create file b S M
 unfolding create
 create-done file after b S M h e = rw h (λ i. record { answer = 0; file = e i })
 
 -- its reply, as document 01 lists it
-pub create-reply : (file : List ℕ) (b S M : ℕ) → create file b S M .answer ≡ reply (refuse 13 (not (figuresFit (length file) b S M)) ∷ []) 0
+pub create-reply : (file : List ℕ) (b S M : ℕ)
+    → create file b S M .answer ≡ reply (refuse 13 (not (figuresFit (length file) b S M)) ∷ []) 0
 unfolding create
 create-reply file b S M = go (figuresFit (length file) b S M)
   where
-    go : (fits : Bool) → cond {A = Created} fits (record { answer = 0; file = created b S M }) (record { answer = 13; file = file }) .answer ≡ reply (refuse 13 (not fits) ∷ []) 0
+    go : (fits : Bool) → cond {A = Created} fits (record { answer = 0; file = created b S M })
+        (record { answer = 13; file = file }) .answer ≡ reply (refuse 13 (not fits) ∷ []) 0
     go true = sym (reply-past 13 false _ 0 refl ∙ reply-none 0)
     go false = sym (reply-here 13 true _ 0 refl)
 
@@ -113,8 +129,10 @@ pub create-left : (file : List ℕ) (b S M : ℕ) → create file b S M .answer 
 unfolding create
 create-left file b S M = go (figuresFit (length file) b S M)
   where
-    go : (fits : Bool) → cond {A = Created} fits (record { answer = 0; file = created b S M }) (record { answer = 13; file = file }) .answer ≡ 13
-        → cond {A = Created} fits (record { answer = 0; file = created b S M }) (record { answer = 13; file = file }) .file ≡ file
+    go : (fits : Bool) → cond {A = Created} fits (record { answer = 0; file = created b S M })
+        (record { answer = 13; file = file }) .answer ≡ 13
+        → cond {A = Created} fits (record { answer = 0; file = created b S M })
+        (record { answer = 13; file = file }) .file ≡ file
     go true e = absurd (omega (arith, e))
     go false e = refl
 
@@ -133,7 +151,9 @@ module _ (b S M : ℕ) (fits : Figures (fileLength S M) b S M) where
 
   is-laid : created b S M ≡ head ++ behind
   unfolding created headerBytes head behind
-  is-laid = ap₂ (λ (p q : List ℕ). fileMark ++ (0 ∷ b ∷ []) ++ p ++ q ++ (S ∷ []) ++ zeros 7 ++ (encode S 0 [] ++ zeros ((M - 1) * (8 + 24 * S)))) (leBytes-two 0) (leBytes-two M)
+  is-laid = ap₂
+      (λ (p q : List ℕ). fileMark ++ (0 ∷ b ∷ []) ++ p ++ q ++ (S ∷ []) ++ zeros 7
+      ++ (encode S 0 [] ++ zeros ((M - 1) * (8 + 24 * S)))) (leBytes-two 0) (leBytes-two M)
 
   most : mostOf (head ++ behind) ≡ M
   unfolding head
@@ -162,28 +182,34 @@ module _ (b S M : ℕ) (fits : Figures (fileLength S M) b S M) where
 
   fixed : (marked (head ++ behind) 0 fileMark && allZero (part 9 7 (head ++ behind))) ≡ true
   unfolding head
-  fixed = ap allZero (part-seam 9 (76 ∷ 70 ∷ 0 ∷ b ∷ 0 ∷ 0 ∷ M % 256 ∷ M / 256 % 256 ∷ S ∷ []) (zeros 7) behind refl) ∙ replicate-zero 7
+  fixed = ap allZero (part-seam 9 (76 ∷ 70 ∷ 0 ∷ b ∷ 0 ∷ 0 ∷ M % 256 ∷ M / 256 % 256 ∷ S ∷ []) (zeros 7) behind refl)
+      ∙ replicate-zero 7
 
   one-bucket : buckets firstBuckets («at» 0 0) ≡ 1
   one-bucket = buckets-is firstBuckets («at» 0 0) ∙ omega (arith, span-is firstBuckets 0)
 
   laid-header : headerSound (head ++ behind) ≡ true
   unfolding headerSound head
-  laid-header = and-both _ _ (and-both _ _ (and-both _ _ (le-leb 16 (length (head ++ behind)) (omega (arith, laid-long))) fixed)
+  laid-header = and-both _ _
+      (and-both _ _ (and-both _ _ (le-leb 16 (length (head ++ behind)) (omega (arith, laid-long))) fixed)
       (ap₂ (λ (n m : ℕ). figuresFit n b S m) laid-long most ∙ figures-back (fileLength S M) b S M fits))
-      (ap₂ stateFits state most ∙ state-back («at» 0 0) M (omega (arith, span-is firstBuckets 0)) (omega (arith, one-bucket, fits .some-buckets)))
+      (ap₂ stateFits state most
+      ∙ state-back («at» 0 0) M (omega (arith, span-is firstBuckets 0))
+      (omega (arith, one-bucket, fits .some-buckets)))
 
   -- its first region is an empty bucket of level 0, the others are zero
   first-region : regionOf (head ++ behind) 0 ≡ encode S 0 []
   unfolding head behind
-  first-region = region-is (head ++ behind) 0 ∙ ap₂ (λ (p n : ℕ). part p n (head ++ behind)) place (sym first-long) ∙ part-seam 16 head (encode S 0 []) (zeros ((M - 1) * (8 + 24 * S))) refl
+  first-region = region-is (head ++ behind) 0 ∙ ap₂ (λ (p n : ℕ). part p n (head ++ behind)) place (sym first-long)
+      ∙ part-seam 16 head (encode S 0 []) (zeros ((M - 1) * (8 + 24 * S))) refl
     where
       place : startOf S 0 ≡ 16
       place = omega arith
 
   other-region : (a : ℕ) → 1 ≤ a → a < M → allZero (regionOf (head ++ behind) a) ≡ true
   unfolding head behind
-  other-region a some there = ap allZero (region-is (head ++ behind) a) ∙ zero-all (part (startOf S a) (slotAt S) (head ++ behind)) each
+  other-region a some there = ap allZero (region-is (head ++ behind) a)
+      ∙ zero-all (part (startOf S a) (slotAt S) (head ++ behind)) each
     where
       past : 8 + 24 * S ≤ a * (8 + 24 * S)
       past = omega (arith, mul-le-mul-right (8 + 24 * S) some)
@@ -191,12 +217,14 @@ module _ (b S M : ℕ) (fits : Figures (fileLength S M) b S M) where
       long : length (part (startOf S a) (slotAt S) (head ++ behind)) ≡ slotAt S
       long = length-part (startOf S a) (slotAt S) (head ++ behind) (omega (arith, laid-long, region-within S M a there))
 
-      each : (k : ℕ) → k < length (part (startOf S a) (slotAt S) (head ++ behind)) → getD (part (startOf S a) (slotAt S) (head ++ behind)) k 0 ≡ 0
+      each : (k : ℕ) → k < length (part (startOf S a) (slotAt S) (head ++ behind))
+          → getD (part (startOf S a) (slotAt S) (head ++ behind)) k 0 ≡ 0
       each k h =
           part-at (startOf S a) (slotAt S) (head ++ behind) k (omega (arith, long))
           ∙ ap (λ (i : ℕ). getD (head ++ behind) i 0) inside
           ∙ laid-at (8 + 24 * S + (a * (8 + 24 * S) - (8 + 24 * S) + k))
-          ∙ ap (λ (i : ℕ). getD (encode S 0 [] ++ zeros ((M - 1) * (8 + 24 * S))) (i + (a * (8 + 24 * S) - (8 + 24 * S) + k)) 0) (sym first-long)
+          ∙ ap (λ (i : ℕ). getD (encode S 0 [] ++ zeros ((M - 1) * (8 + 24 * S)))
+          (i + (a * (8 + 24 * S) - (8 + 24 * S) + k)) 0) (sym first-long)
           ∙ getD-append-add (encode S 0 []) (zeros ((M - 1) * (8 + 24 * S))) (a * (8 + 24 * S) - (8 + 24 * S) + k) 0
           ∙ zeros-at ((M - 1) * (8 + 24 * S)) (a * (8 + 24 * S) - (8 + 24 * S) + k)
         where
@@ -215,15 +243,18 @@ module _ (b S M : ℕ) (fits : Figures (fileLength S M) b S M) where
 
   laid-region : (a : ℕ) → a < M → regionSound (head ++ behind) a ≡ true
   laid-region zero there = region-bucket (head ++ behind) 0 (omega (arith, laid-buckets)) ∙ first-sound
-  laid-region (suc a) there = region-past (head ++ behind) (suc a) (omega (arith, laid-buckets)) ∙ other-region (suc a) (omega arith) there
+  laid-region (suc a) there = region-past (head ++ behind) (suc a) (omega (arith, laid-buckets))
+      ∙ other-region (suc a) (omega arith) there
 
   -- create gives a sound file
   pub created-sound : fileSound (created b S M) ≡ true
   unfolding fileSound
   created-sound = ap (λ (l : List ℕ). headerSound l && allBelow (regionSound l) (mostOf l)) is-laid
-      ∙ and-both _ _ laid-header (all-of (regionSound (head ++ behind)) (mostOf (head ++ behind)) (λ a h. laid-region a (omega (arith, most))))
+      ∙ and-both _ _ laid-header
+      (all-of (regionSound (head ++ behind)) (mostOf (head ++ behind)) (λ a h. laid-region a (omega (arith, most))))
 
-pub create-sound : (file : List ℕ) (b S M : ℕ) → figuresFit (length file) b S M ≡ true → fileSound (created b S M) ≡ true
+pub create-sound : (file : List ℕ) (b S M : ℕ) → figuresFit (length file) b S M ≡ true
+    → fileSound (created b S M) ≡ true
 create-sound file b S M h =
     let f = figures (length file) b S M h in
     created-sound b S M (record {

@@ -1,4 +1,5 @@
--- Where the regions lie: within the file, one behind the other; how each is judged, and what check and view say of them.
+-- Where the regions lie: within the file, one behind the other; how each is judged, and what check and view say of
+-- them.
 use Prim.Native.Nat.{ℕ, _+_, _*_, _-_, _≤_, _<_}
 use mathlib.Core.Path.{_≡_, refl, sym, ap, ap₂, _∙_}
 use mathlib.Core.Bool.{Bool, true, false, cond, not, _&&_}
@@ -8,7 +9,7 @@ use native.Mathlib.Omega.{arith}
 use borrow.Author.Tests.{lt-ltb, le-ltb, ltb-true, ltb-false, not-true, not-false}
 use lib.Dec.{ltb, eqb}
 use lib.ListN.{length, take, drop}
-use Rattle.address.specs.Limits.{firstBuckets, noBucket}
+use Rattle.address.specs.Limits.{firstBuckets, noBucket, mostBuckets, mostSlots}
 use Rattle.address.specs.declared.Image.{Image}
 use Rattle.address.specs.Room.{Room}
 use Rattle.address.specs.Rules.{buckets, level, keeps}
@@ -21,12 +22,13 @@ use Rattle.layout.specs.Replies.{refuse, reply, reply-none, reply-here, reply-p
 use Rattle.bucket.specs.Region.{slotAt, countOf, soundWith}
 use Rattle.bucket.specs.Region.Sound.{bucket-judged, bucket-few}
 use Rattle.file.specs.declared.Header.{Header}
-use Rattle.file.specs.File.{mostOf, slotsOf, stateOf, startOf, fileLength, bucketsOf, regionOf, headerSound, bucketSoundIn, regionSound, fileSound, Checked, lowestUnsound, check, view}
+use Rattle.file.specs.File.{mostOf, slotsOf, stateOf, startOf, fileLength, bucketsOf, regionOf, headerSound}
+use Rattle.file.specs.File.{bucketSoundIn, regionSound, fileSound, Checked, lowestUnsound, check, view}
 use Rattle.file.specs.File.Judge.{Ranges, Known}
 
 -- the machine's room for a place
-pub place-room : (S a : ℕ) → S ≤ 64 → a ≤ 4096 → a * (8 + 24 * S) ≤ 6324224
-place-room S a few low = mul-le-mul {n₂ = 4096} {m₂ = 1544} low (omega arith)
+pub place-room : (S a : ℕ) → S ≤ mostSlots → a ≤ mostBuckets → a * (8 + 24 * S) ≤ mostBuckets * (8 + 24 * mostSlots)
+place-room S a few low = mul-le-mul {n₂ = mostBuckets} {m₂ = 8 + 24 * mostSlots} low (omega arith)
 
 -- a region of the file is within it
 pub region-within : (S M a : ℕ) → a < M → startOf S a + slotAt S ≤ fileLength S M
@@ -41,9 +43,11 @@ pub region-is : (file : List ℕ) (a : ℕ) → regionOf file a ≡ part (startO
 unfolding regionOf
 region-is file a = refl
 
-module _ (file : List ℕ) (S a at e : ℕ) (eS : S ≡ slotsOf file) (ea : at ≡ startOf S a) (ee : e ≡ at + (8 + 24 * S)) where
+module _ (file : List ℕ) (S a at e : ℕ) (eS : S ≡ slotsOf file) (ea : at ≡ startOf S a)
+    (ee : e ≡ at + (8 + 24 * S)) where
   pub region-cut : take (e - at) (drop at file) ≡ regionOf file a
-  region-cut = ap₂ (λ (n k : ℕ). take n (drop k file)) wide place ∙ sym (part-is (startOf (slotsOf file) a) (slotAt (slotsOf file)) file) ∙ sym (region-is file a)
+  region-cut = ap₂ (λ (n k : ℕ). take n (drop k file)) wide place
+      ∙ sym (part-is (startOf (slotsOf file) a) (slotAt (slotsOf file)) file) ∙ sym (region-is file a)
     where
       place : at ≡ startOf (slotsOf file) a
       place = ea ∙ ap (λ (n : ℕ). startOf n a) eS
@@ -51,11 +55,14 @@ module _ (file : List ℕ) (S a at e : ℕ) (eS : S ≡ slotsOf file) (ea : at �
       wide : e - at ≡ slotAt (slotsOf file)
       wide = omega arith
 
-pub length-region : (file : List ℕ) (a : ℕ) → startOf (slotsOf file) a + slotAt (slotsOf file) ≤ length file → length (regionOf file a) ≡ slotAt (slotsOf file)
-length-region file a fits = ap length (region-is file a) ∙ length-part (startOf (slotsOf file) a) (slotAt (slotsOf file)) file fits
+pub length-region : (file : List ℕ) (a : ℕ) → startOf (slotsOf file) a + slotAt (slotsOf file) ≤ length file
+    → length (regionOf file a) ≡ slotAt (slotsOf file)
+length-region file a fits = ap length (region-is file a)
+    ∙ length-part (startOf (slotsOf file) a) (slotAt (slotsOf file)) file fits
 
 -- a region of a file with a sound header is within it
-pub region-fits : (file : List ℕ) → Ranges file → (a : ℕ) → a < mostOf file → startOf (slotsOf file) a + slotAt (slotsOf file) ≤ length file
+pub region-fits : (file : List ℕ) → Ranges file → (a : ℕ) → a < mostOf file
+    → startOf (slotsOf file) a + slotAt (slotsOf file) ≤ length file
 region-fits file seen a h = omega (arith, region-within (slotsOf file) (mostOf file) a h, seen .figured .whole)
 
 -- ---- a region of a file whose header is known
@@ -70,20 +77,32 @@ module _ (file : List ℕ) (header : Header) (seen : Known file header) where
     known-cut = region-cut file (header .slots) a at (at + (8 + 24 * header .slots)) (seen .slots) ea refl
 
     pub known-fits : a < mostOf file → at + (8 + 24 * header .slots) ≤ length file
-    known-fits h = omega (arith, region-fits file (seen .ranges) a h, ap (λ (S : ℕ). startOf S a) (seen .slots), seen .slots)
+    known-fits h = omega
+        (arith, region-fits file (seen .ranges) a h, ap (λ (S : ℕ). startOf S a) (seen .slots), seen .slots)
 
-    pub known-long : a < mostOf file → length (take (at + (8 + 24 * header .slots) - at) (drop at file)) ≡ slotAt (header .slots)
-    known-long h = ap length known-cut ∙ length-region file a (region-fits file (seen .ranges) a h) ∙ ap slotAt (sym (seen .slots))
+    pub known-long : a < mostOf file
+        → length (take (at + (8 + 24 * header .slots) - at) (drop at file)) ≡ slotAt (header .slots)
+    known-long h = ap length known-cut ∙ length-region file a (region-fits file (seen .ranges) a h)
+        ∙ ap slotAt (sym (seen .slots))
 
   module _ (a l : ℕ) (exists : a < bucketsOf file) (el : l ≡ level firstBuckets (header .state) a) where
     pub known-level : Room firstBuckets l
-    known-level = record { some = omega arith; few = omega arith; low = omega (arith, level-high firstBuckets (header .state) a, seen .room .levels .low) }
+    known-level =
+        record {
+          some = omega arith;
+          few = omega arith;
+          low = omega
+              (arith, level-high firstBuckets (header .state) a, seen .room .levels .low);
+        }
 
     pub known-judged : soundWith (header .slots) l (keeps firstBuckets a l) (regionOf file a) ≡ bucketSoundIn file a
     unfolding bucketSoundIn bucketsOf
     known-judged =
-        ap₂ (λ (S k : ℕ). soundWith S k (keeps firstBuckets a k) (regionOf file a)) (seen .slots) (el ∙ ap (λ (s : Image). level firstBuckets s a) (seen .state))
-        ∙ sym (bucket-judged firstBuckets (omega arith) (stateOf file) (seen .ranges .formed) (slotsOf file) a exists (regionOf file a))
+        ap₂ (λ (S k : ℕ). soundWith S k (keeps firstBuckets a k) (regionOf file a)) (seen .slots)
+        (el ∙ ap (λ (s : Image). level firstBuckets s a) (seen .state))
+        ∙ sym
+        (bucket-judged firstBuckets (omega arith) (stateOf file) (seen .ranges .formed) (slotsOf file) a exists
+        (regionOf file a))
 
 -- a region by its cases
 pub region-bucket : (file : List ℕ) (a : ℕ) → a < bucketsOf file → regionSound file a ≡ bucketSoundIn file a
@@ -122,21 +141,27 @@ pub check-header : (file : List ℕ) → headerSound file ≡ false → record {
 unfolding check
 check-header file h = rw h
 
-pub check-region : (file : List ℕ) → headerSound file ≡ true → (k : ℕ) → k ≡ lowestUnsound file → k < mostOf file → record { answer = 7; bucket = k } ≡ check file
+pub check-region : (file : List ℕ) → headerSound file ≡ true → (k : ℕ) → k ≡ lowestUnsound file → k < mostOf file
+    → record { answer = 7; bucket = k } ≡ check file
 unfolding check
-check-region file h k e l = rw (h, lt-ltb (lowestUnsound file) (mostOf file) (omega arith)) (λ i. record { answer = 7; bucket = e i })
+check-region file h k e l = rw (h, lt-ltb (lowestUnsound file) (mostOf file) (omega arith))
+    (λ i. record { answer = 7; bucket = e i })
 
-pub check-none : (file : List ℕ) → headerSound file ≡ true → (k : ℕ) → k ≡ lowestUnsound file → mostOf file ≤ k → record { answer = 0; bucket = noBucket } ≡ check file
+pub check-none : (file : List ℕ) → headerSound file ≡ true → (k : ℕ) → k ≡ lowestUnsound file → mostOf file ≤ k
+    → record { answer = 0; bucket = noBucket } ≡ check file
 unfolding check
 check-none file h k e l = rw (h, le-ltb (lowestUnsound file) (mostOf file) (omega arith))
 
 -- its reply, as document 01 lists it
-pub check-reply : (file : List ℕ) → check file .answer ≡ reply (refuse 5 (not (headerSound file)) ∷ refuse 7 (ltb (lowestUnsound file) (mostOf file)) ∷ []) 0
+pub check-reply : (file : List ℕ)
+    → check file .answer ≡ reply
+    (refuse 5 (not (headerSound file)) ∷ refuse 7 (ltb (lowestUnsound file) (mostOf file)) ∷ []) 0
 unfolding check
 check-reply file = go (headerSound file) (ltb (lowestUnsound file) (mostOf file))
   where
     go : (header some : Bool) → cond {A = Checked} (not header) (record { answer = 5; bucket = noBucket })
-        (cond {A = Checked} some (record { answer = 7; bucket = lowestUnsound file }) (record { answer = 0; bucket = noBucket })) .answer
+        (cond {A = Checked} some (record { answer = 7; bucket = lowestUnsound file })
+        (record { answer = 0; bucket = noBucket })) .answer
         ≡ reply (refuse 5 (not header) ∷ refuse 7 some ∷ []) 0
     go false some = sym (reply-here 5 true _ 0 refl)
     go true true = sym (reply-past 5 false _ 0 refl ∙ reply-here 7 true _ 0 refl)
@@ -156,7 +181,8 @@ pub view-high : (file : List ℕ) (a : ℕ) → headerSound file ≡ true → bu
 unfolding view
 view-high file a h l = rw (h, le-ltb a (bucketsOf file) l)
 
-pub view-unsound : (file : List ℕ) (a : ℕ) → headerSound file ≡ true → a < bucketsOf file → bucketSoundIn file a ≡ false → [] ≡ view file a
+pub view-unsound : (file : List ℕ) (a : ℕ) → headerSound file ≡ true → a < bucketsOf file → bucketSoundIn file a ≡ false
+    → [] ≡ view file a
 unfolding view
 view-unsound file a h l u = rw (h, lt-ltb a (bucketsOf file) l, u)
 
@@ -166,14 +192,18 @@ unfolding bucketSoundIn
 sound-few file a h = bucket-few firstBuckets (stateOf file) (slotsOf file) a (regionOf file a) h
 
 pub count-in : (file : List ℕ) (a : ℕ) → countOf (regionOf file a) ≡ leAt 2 file (startOf (slotsOf file) a + 4)
-count-in file a = ap (λ (r : List ℕ). leAt 2 r 4) (region-is file a) ∙ le-part 2 file (startOf (slotsOf file) a) (slotAt (slotsOf file)) 4 (omega arith)
+count-in file a = ap (λ (r : List ℕ). leAt 2 r 4) (region-is file a)
+    ∙ le-part 2 file (startOf (slotsOf file) a) (slotAt (slotsOf file)) 4 (omega arith)
 
 -- the count read at a region's place is the region's
-pub known-count : (file : List ℕ) (header : Header) → Known file header → (a at : ℕ) → at ≡ startOf (header .slots) a → (n : ℕ) → n ≡ leAt 2 file (at + 4)
+pub known-count : (file : List ℕ) (header : Header) → Known file header → (a at : ℕ) → at ≡ startOf (header .slots) a
+    → (n : ℕ) → n ≡ leAt 2 file (at + 4)
     → n ≡ countOf (regionOf file a)
-known-count file header seen a at ea n en = en ∙ ap (λ (p : ℕ). leAt 2 file (p + 4)) (ea ∙ ap (λ (S : ℕ). startOf S a) (seen .slots)) ∙ sym (count-in file a)
+known-count file header seen a at ea n en = en
+    ∙ ap (λ (p : ℕ). leAt 2 file (p + 4)) (ea ∙ ap (λ (S : ℕ). startOf S a) (seen .slots)) ∙ sym (count-in file a)
 
-module _ (file : List ℕ) (header : Header) (seen : Known file header) (a at n : ℕ) (ea : at ≡ startOf (header .slots) a) (en : n ≡ leAt 2 file (at + 4))
+module _ (file : List ℕ) (header : Header) (seen : Known file header) (a at n : ℕ) (ea : at ≡ startOf (header .slots) a)
+    (en : n ≡ leAt 2 file (at + 4))
     (exists : a < bucketsOf file) (sound : bucketSoundIn file a ≡ true) where
   placed : at ≡ startOf (slotsOf file) a
   placed = ea ∙ ap (λ (S : ℕ). startOf S a) (seen .slots)
@@ -182,12 +212,19 @@ module _ (file : List ℕ) (header : Header) (seen : Known file header) (a at n 
   counted = known-count file header seen a at ea n en
 
   pub view-fits : at + 8 + 24 * n ≤ length file
-  view-fits = omega (arith, known-fits file header seen a at ea (omega (arith, seen .ranges .few)), counted, sound-few file a sound, seen .slots)
+  view-fits = omega (
+    arith,
+    known-fits file header seen a at ea (omega (arith, seen .ranges .few)),
+    counted,
+    sound-few file a sound,
+    seen .slots,
+  )
 
   pub view-used : take (at + 8 + 24 * n - (at + 8)) (drop (at + 8) file) ≡ view file a
   unfolding view
   view-used = rw (seen .sound, lt-ltb a (bucketsOf file) exists, sound)
-      (ap₂ (λ (m p : ℕ). take m (drop (p + 8) file)) wide placed ∙ sym (part-is (startOf (slotsOf file) a + 8) (24 * countOf (regionOf file a)) file))
+      (ap₂ (λ (m p : ℕ). take m (drop (p + 8) file)) wide placed
+      ∙ sym (part-is (startOf (slotsOf file) a + 8) (24 * countOf (regionOf file a)) file))
     where
       wide : at + 8 + 24 * n - (at + 8) ≡ 24 * countOf (regionOf file a)
       wide = omega (arith, counted)
@@ -201,14 +238,21 @@ check-sound file = headed (headerSound file)
     lowest = lowestUnsound file
 
     regions : (b : Bool) → ltb lowest (mostOf file) ≡ b
-        → eqb (cond {A = Checked} b (record { answer = 7; bucket = lowest }) (record { answer = 0; bucket = noBucket }) .answer) 0 ≡ allBelow (regionSound file) (mostOf file)
+        → eqb
+        (cond {A = Checked} b (record { answer = 7; bucket = lowest })
+        (record { answer = 0; bucket = noBucket }) .answer) 0 ≡ allBelow (regionSound file) (mostOf file)
     regions true h = sym (all-fails (regionSound file) (mostOf file) lowest (ltb-true lowest (mostOf file) h)
-        (not-true _ (first-passes (λ a. not (regionSound file a)) (mostOf file) 0 (omega (arith, ltb-true lowest (mostOf file) h)))))
+        (not-true _
+        (first-passes (λ a. not (regionSound file a)) (mostOf file) 0
+        (omega (arith, ltb-true lowest (mostOf file) h)))))
     regions false h = sym (all-of (regionSound file) (mostOf file)
-        (λ a l. not-false _ (first-before (λ x. not (regionSound file x)) (mostOf file) 0 a (omega arith) (omega (arith, ltb-false lowest (mostOf file) h)))))
+        (λ a l. not-false _
+        (first-before (λ x. not (regionSound file x)) (mostOf file) 0 a (omega arith)
+        (omega (arith, ltb-false lowest (mostOf file) h)))))
 
     headed : (b : Bool) → eqb (cond {A = Checked} (not b) (record { answer = 5; bucket = noBucket })
-        (cond (ltb lowest (mostOf file)) (record { answer = 7; bucket = lowest }) (record { answer = 0; bucket = noBucket })) .answer) 0
+        (cond (ltb lowest (mostOf file)) (record { answer = 7; bucket = lowest })
+        (record { answer = 0; bucket = noBucket })) .answer) 0
         ≡ (b && allBelow (regionSound file) (mostOf file))
     headed true = regions (ltb lowest (mostOf file)) refl
     headed false = refl

@@ -1,4 +1,5 @@
--- What a write leaves: a region written is read there, every other region and the header are as they were; a state written is read there, and every region is as it was.
+-- What a write leaves: a region written is read there, every other region and the header are as they were; a state
+-- written is read there, and every region is as it was.
 use Prim.Native.Nat.{ℕ, zero, suc, _+_, _-_, _≤_, _<_, min}
 use mathlib.Core.Path.{_≡_, refl, sym, ap, ap₂, _∙_}
 use mathlib.Core.Bool.{Bool, true, _&&_}
@@ -13,7 +14,8 @@ use Rattle.address.specs.Limits.{firstBuckets}
 use Rattle.address.specs.declared.Image.{Image}
 use Rattle.layout.specs.Bytes.{Bytes, leAt, leBytes, marked, allZero, edit, part}
 use Rattle.layout.specs.Bytes.Apart.{lent}
-use Rattle.layout.specs.Bytes.Edit.{length-edit, edit-before, edit-in, edit-after, part-edit, part-before, part-after, part-at, part-is, same-bytes, edit-bytes, part-bytes}
+use Rattle.layout.specs.Bytes.Edit.{length-edit, edit-before, edit-in, edit-after, part-edit, part-before, part-after}
+use Rattle.layout.specs.Bytes.Edit.{part-at, part-is, same-bytes, edit-bytes, part-bytes}
 use Rattle.layout.specs.Bytes.Tests.{and-left, and-both}
 use Rattle.layout.specs.Bytes.Numbers.{le-same, le-back, length-leBytes, leBytes-bytes}
 use Rattle.address.specs.Rules.{address, level}
@@ -22,12 +24,14 @@ use Rattle.bucket.specs.Region.Rides.{AllWhole}
 use Rattle.bucket.specs.Region.Sound.{Parts, bucket-parts, sound-count, sound-whole, sound-encode}
 use Rattle.bucket.specs.Region.Encode.{encode-more}
 use Rattle.file.specs.declared.Header.{Header}
-use Rattle.file.specs.File.{fileMark, capacityOf, mostOf, slotsOf, stateOf, figuresFit, bucketsOf, stateFits, headerSound, startOf, regionOf, bucketSoundIn, withRegion, withRide, withState}
+use Rattle.file.specs.File.{fileMark, capacityOf, mostOf, slotsOf, stateOf, figuresFit, bucketsOf, stateFits}
+use Rattle.file.specs.File.{headerSound, startOf, regionOf, bucketSoundIn, withRegion, withRide, withState}
 use Rattle.file.specs.File.Judge.{Ranges, Known}
 use Rattle.file.specs.File.Region.{region-is, region-fits, region-apart, length-region}
 
 -- two files that agree in the first 16 bytes and in length have the same header
-module _ (file other : List ℕ) (long : length other ≡ length file) (same : (k : ℕ) → k < 16 → getD other k 0 ≡ getD file k 0) where
+module _ (file other : List ℕ) (long : length other ≡ length file)
+    (same : (k : ℕ) → k < 16 → getD other k 0 ≡ getD file k 0) where
   number : (at : ℕ) → at + 2 ≤ 16 → leAt 2 other at ≡ leAt 2 file at
   number at h = le-same 2 other file at at (λ k l. same (at + k) (omega arith))
 
@@ -43,9 +47,15 @@ module _ (file other : List ℕ) (long : length other ≡ length file) (same : (
 
   pub header-same : headerSound other ≡ headerSound file
   unfolding headerSound
-  header-same = ap₂ (λ (n : ℕ) (b : Bool). leb 16 n && b && figuresFit n (capacityOf other) (slotsOf other) (mostOf other) && stateFits (stateOf other) (mostOf other)) long fixed
-      ∙ ap₂ (λ (c S : ℕ). leb 16 (length file) && fixed-bytes && figuresFit (length file) c S (mostOf other) && stateFits (stateOf other) (mostOf other)) (same 3 (omega arith)) header-slots
-      ∙ ap₂ (λ (M : ℕ) (s : Image). leb 16 (length file) && fixed-bytes && figuresFit (length file) (capacityOf file) (slotsOf file) M && stateFits s M) header-most header-state
+  header-same = ap₂
+      (λ (n : ℕ) (b : Bool). leb 16 n && b && figuresFit n (capacityOf other) (slotsOf other) (mostOf other)
+      && stateFits (stateOf other) (mostOf other)) long fixed
+      ∙ ap₂
+      (λ (c S : ℕ). leb 16 (length file) && fixed-bytes && figuresFit (length file) c S (mostOf other)
+      && stateFits (stateOf other) (mostOf other)) (same 3 (omega arith)) header-slots
+      ∙ ap₂
+      (λ (M : ℕ) (s : Image). leb 16 (length file) && fixed-bytes
+      && figuresFit (length file) (capacityOf file) (slotsOf file) M && stateFits s M) header-most header-state
     where
       fixed-bytes : Bool
       fixed-bytes = marked file 0 fileMark && allZero (part 9 7 file)
@@ -54,14 +64,19 @@ module _ (file other : List ℕ) (long : length other ≡ length file) (same : (
       seven xs = ap length (part-is 9 7 xs) ∙ length-take 7 (drop 9 xs) ∙ ap (min 7) (length-drop 9 xs)
 
       behind : part 9 7 other ≡ part 9 7 file
-      behind = same-bytes (part 9 7 other) (part 9 7 file) (seven other ∙ ap (λ (n : ℕ). min 7 (n - 9)) long ∙ sym (seven file))
-          (λ k h. part-at 9 7 other k (omega (arith, seven other)) ∙ same (9 + k) (omega (arith, seven other)) ∙ sym (part-at 9 7 file k (omega (arith, seven other))))
+      behind = same-bytes (part 9 7 other) (part 9 7 file)
+          (seven other ∙ ap (λ (n : ℕ). min 7 (n - 9)) long ∙ sym (seven file))
+          (λ k h. part-at 9 7 other k (omega (arith, seven other)) ∙ same (9 + k) (omega (arith, seven other))
+          ∙ sym (part-at 9 7 file k (omega (arith, seven other))))
 
-      fixed : (marked other 0 fileMark && allZero (part 9 7 other)) ≡ (marked file 0 fileMark && allZero (part 9 7 file))
-      fixed = ap₂ _&&_ (ap₂ (λ (x y : ℕ). eqb x 76 && eqb y 70) (same 0 (omega arith)) (same 1 (omega arith))) (ap allZero behind)
+      fixed : (marked other 0 fileMark && allZero (part 9 7 other))
+          ≡ (marked file 0 fileMark && allZero (part 9 7 file))
+      fixed = ap₂ _&&_ (ap₂ (λ (x y : ℕ). eqb x 76 && eqb y 70) (same 0 (omega arith)) (same 1 (omega arith)))
+          (ap allZero behind)
 
 -- a region, written
-module _ (file : List ℕ) (seen : Ranges file) (a : ℕ) (there : a < mostOf file) (region : List ℕ) (whole : length region ≡ slotAt (slotsOf file)) where
+module _ (file : List ℕ) (seen : Ranges file) (a : ℕ) (there : a < mostOf file) (region : List ℕ)
+    (whole : length region ≡ slotAt (slotsOf file)) where
   fits : startOf (slotsOf file) a + length region ≤ length file
   fits = omega (arith, region-fits file seen a there)
 
@@ -88,16 +103,22 @@ module _ (file : List ℕ) (seen : Ranges file) (a : ℕ) (there : a < mostOf fi
       ∙ written
     where
       written : part (startOf (slotsOf file) a) (length region) (withRegion file a region) ≡ region
-      written = with-edit (λ (l : List ℕ). part (startOf (slotsOf file) a) (length region) l ≡ region) (part-edit (startOf (slotsOf file) a) region file fits)
+      written = with-edit (λ (l : List ℕ). part (startOf (slotsOf file) a) (length region) l ≡ region)
+          (part-edit (startOf (slotsOf file) a) region file fits)
 
   pub with-other : (b : ℕ) → b < mostOf file → (b ≡ a → ⊥) → regionOf (withRegion file a region) b ≡ regionOf file b
   with-other b h other =
       region-is (withRegion file a region) b
       ∙ ap (λ (S : ℕ). part (startOf S b) (slotAt S) (withRegion file a region)) with-slots
       ∙ by-cases (decLt b a)
-      (λ l. with-edit (λ (l : List ℕ). part (startOf (slotsOf file) b) (slotAt (slotsOf file)) l ≡ part (startOf (slotsOf file) b) (slotAt (slotsOf file)) file)
-      (part-before (startOf (slotsOf file) a) region file fits (startOf (slotsOf file) b) (slotAt (slotsOf file)) (region-apart (slotsOf file) b a l)))
-      (λ l. with-edit (λ (l : List ℕ). part (startOf (slotsOf file) b) (slotAt (slotsOf file)) l ≡ part (startOf (slotsOf file) b) (slotAt (slotsOf file)) file)
+      (λ l. with-edit
+      (λ (l : List ℕ). part (startOf (slotsOf file) b) (slotAt (slotsOf file)) l
+      ≡ part (startOf (slotsOf file) b) (slotAt (slotsOf file)) file)
+      (part-before (startOf (slotsOf file) a) region file fits (startOf (slotsOf file) b) (slotAt (slotsOf file))
+      (region-apart (slotsOf file) b a l)))
+      (λ l. with-edit
+      (λ (l : List ℕ). part (startOf (slotsOf file) b) (slotAt (slotsOf file)) l
+      ≡ part (startOf (slotsOf file) b) (slotAt (slotsOf file)) file)
       (part-after (startOf (slotsOf file) a) region file fits (startOf (slotsOf file) b) (slotAt (slotsOf file))
       (omega (arith, region-apart (slotsOf file) a b (omega (arith, other)))) (region-fits file seen b h)))
       ∙ sym (region-is file b)
@@ -124,7 +145,8 @@ with-lent file region a at n ea en = lent at n region file en ∙ ap (λ (p : �
 
 -- ---- a state, written
 
-pub state-written : (file : List ℕ) (state : Image) → edit 4 (leBytes 2 (state .pointer)) (edit 2 (state .level ∷ []) file) ≡ withState file state
+pub state-written : (file : List ℕ) (state : Image)
+    → edit 4 (leBytes 2 (state .pointer)) (edit 2 (state .level ∷ []) file) ≡ withState file state
 unfolding withState
 state-written file state = refl
 
@@ -145,27 +167,33 @@ module _ (file : List ℕ) (state : Image) (headed : 16 ≤ length file) (low : 
   state-edit P p = p
 
   pub state-length : length (withState file state) ≡ length file
-  state-length = state-edit (λ (l : List ℕ). length l ≡ length file) (length-edit 4 (leBytes 2 (state .pointer)) levelled fits-pointer ∙ levelled-long)
+  state-length = state-edit (λ (l : List ℕ). length l ≡ length file)
+      (length-edit 4 (leBytes 2 (state .pointer)) levelled fits-pointer ∙ levelled-long)
 
   state-before : (k : ℕ) → k < 2 → getD (withState file state) k 0 ≡ getD file k 0
   unfolding levelled
   state-before k h = state-edit (λ (l : List ℕ). getD l k 0 ≡ getD file k 0)
-      (edit-before 4 (leBytes 2 (state .pointer)) levelled fits-pointer k (omega arith) ∙ edit-before 2 (state .level ∷ []) file (omega arith) k h)
+      (edit-before 4 (leBytes 2 (state .pointer)) levelled fits-pointer k (omega arith)
+      ∙ edit-before 2 (state .level ∷ []) file (omega arith) k h)
 
   state-three : getD (withState file state) 3 0 ≡ getD file 3 0
   unfolding levelled
   state-three = state-edit (λ (l : List ℕ). getD l 3 0 ≡ getD file 3 0)
-      (edit-before 4 (leBytes 2 (state .pointer)) levelled fits-pointer 3 (omega arith) ∙ edit-after 2 (state .level ∷ []) file (omega arith) 3 (omega arith))
+      (edit-before 4 (leBytes 2 (state .pointer)) levelled fits-pointer 3 (omega arith)
+      ∙ edit-after 2 (state .level ∷ []) file (omega arith) 3 (omega arith))
 
   state-after : (k : ℕ) → 6 ≤ k → getD (withState file state) k 0 ≡ getD file k 0
   unfolding levelled
   state-after k h = state-edit (λ (l : List ℕ). getD l k 0 ≡ getD file k 0)
-      (edit-after 4 (leBytes 2 (state .pointer)) levelled fits-pointer k (omega (arith, length-leBytes 2 (state .pointer))) ∙ edit-after 2 (state .level ∷ []) file (omega arith) k (omega arith))
+      (edit-after 4 (leBytes 2 (state .pointer)) levelled fits-pointer k
+      (omega (arith, length-leBytes 2 (state .pointer)))
+      ∙ edit-after 2 (state .level ∷ []) file (omega arith) k (omega arith))
 
   state-part : (at n : ℕ) → 6 ≤ at → at + n ≤ length file → part at n (withState file state) ≡ part at n file
   unfolding levelled
   state-part at n h fits = state-edit (λ (l : List ℕ). part at n l ≡ part at n file)
-      (part-after 4 (leBytes 2 (state .pointer)) levelled fits-pointer at n (omega (arith, length-leBytes 2 (state .pointer))) (omega (arith, levelled-long))
+      (part-after 4 (leBytes 2 (state .pointer)) levelled fits-pointer at n
+      (omega (arith, length-leBytes 2 (state .pointer))) (omega (arith, levelled-long))
       ∙ part-after 2 (state .level ∷ []) file (omega arith) at n (omega arith) fits)
 
   pub state-slots : slotsOf (withState file state) ≡ slotsOf file
@@ -180,23 +208,34 @@ module _ (file : List ℕ) (state : Image) (headed : 16 ≤ length file) (low : 
     where
       first : getD (withState file state) 2 0 ≡ state .level
       first = state-edit (λ (l : List ℕ). getD l 2 0 ≡ state .level)
-          (edit-before 4 (leBytes 2 (state .pointer)) levelled fits-pointer 2 (omega arith) ∙ edit-in 2 (state .level ∷ []) file (omega arith) 0 (omega arith))
+          (edit-before 4 (leBytes 2 (state .pointer)) levelled fits-pointer 2 (omega arith)
+          ∙ edit-in 2 (state .level ∷ []) file (omega arith) 0 (omega arith))
 
       second : leAt 2 (withState file state) 4 ≡ state .pointer
       second = state-edit (λ (l : List ℕ). leAt 2 l 4 ≡ leAt 2 (leBytes 2 (state .pointer) ++ []) 0)
           (le-same 2 (edit 4 (leBytes 2 (state .pointer)) levelled) (leBytes 2 (state .pointer) ++ []) 4 0
-          (λ k l. edit-in 4 (leBytes 2 (state .pointer)) levelled fits-pointer k (omega (arith, length-leBytes 2 (state .pointer)))
-          ∙ ap₂ (λ (b : List ℕ) (i : ℕ). getD b i 0) (sym (append-nil (leBytes 2 (state .pointer)))) (sym (zero-add k))))
+          (λ k l. edit-in 4 (leBytes 2 (state .pointer)) levelled fits-pointer k
+          (omega (arith, length-leBytes 2 (state .pointer)))
+          ∙ ap₂ (λ (b : List ℕ) (i : ℕ). getD b i 0) (sym (append-nil (leBytes 2 (state .pointer))))
+          (sym (zero-add k))))
           ∙ le-back 2 (state .pointer) low []
 
-  pub state-header : headerSound file ≡ true → stateFits state (mostOf file) ≡ true → headerSound (withState file state) ≡ true
+  pub state-header : headerSound file ≡ true → stateFits state (mostOf file) ≡ true
+      → headerSound (withState file state) ≡ true
   unfolding headerSound
   state-header h fits =
-      ap₂ (λ (n : ℕ) (b : Bool). leb 16 n && b && figuresFit n (capacityOf written) (slotsOf written) (mostOf written) && stateFits (stateOf written) (mostOf written)) state-length fixed
-      ∙ ap₂ (λ (c S : ℕ). before && figuresFit (length file) c S (mostOf written) && stateFits (stateOf written) (mostOf written)) state-three state-slots
-      ∙ ap₂ (λ (M : ℕ) (s : Image). before && figuresFit (length file) (capacityOf file) (slotsOf file) M && stateFits s M) state-most state-back-again
-      ∙ and-both (before && figuresFit (length file) (capacityOf file) (slotsOf file) (mostOf file)) (stateFits state (mostOf file))
-      (and-left (before && figuresFit (length file) (capacityOf file) (slotsOf file) (mostOf file)) (stateFits (stateOf file) (mostOf file)) h) fits
+      ap₂ (λ (n : ℕ) (b : Bool). leb 16 n && b && figuresFit n (capacityOf written) (slotsOf written) (mostOf written)
+      && stateFits (stateOf written) (mostOf written)) state-length fixed
+      ∙ ap₂
+      (λ (c S : ℕ). before && figuresFit (length file) c S (mostOf written)
+      && stateFits (stateOf written) (mostOf written)) state-three state-slots
+      ∙ ap₂
+      (λ (M : ℕ) (s : Image). before && figuresFit (length file) (capacityOf file) (slotsOf file) M
+      && stateFits s M) state-most state-back-again
+      ∙ and-both (before && figuresFit (length file) (capacityOf file) (slotsOf file) (mostOf file))
+      (stateFits state (mostOf file))
+      (and-left (before && figuresFit (length file) (capacityOf file) (slotsOf file) (mostOf file))
+      (stateFits (stateOf file) (mostOf file)) h) fits
     where
       written : List ℕ
       written = withState file state
@@ -204,8 +243,11 @@ module _ (file : List ℕ) (state : Image) (headed : 16 ≤ length file) (low : 
       before : Bool
       before = leb 16 (length file) && (marked file 0 fileMark && allZero (part 9 7 file))
 
-      fixed : (marked written 0 fileMark && allZero (part 9 7 written)) ≡ (marked file 0 fileMark && allZero (part 9 7 file))
-      fixed = ap₂ _&&_ (ap₂ (λ (x y : ℕ). eqb x 76 && eqb y 70) (state-before 0 (omega arith)) (state-before 1 (omega arith))) (ap allZero (state-part 9 7 (omega arith) (omega arith)))
+      fixed : (marked written 0 fileMark && allZero (part 9 7 written))
+          ≡ (marked file 0 fileMark && allZero (part 9 7 file))
+      fixed = ap₂ _&&_
+          (ap₂ (λ (x y : ℕ). eqb x 76 && eqb y 70) (state-before 0 (omega arith)) (state-before 1 (omega arith)))
+          (ap allZero (state-part 9 7 (omega arith) (omega arith)))
 
   pub state-region : Ranges file → (a : ℕ) → a < mostOf file → regionOf (withState file state) a ≡ regionOf file a
   state-region seen a there =
@@ -216,7 +258,8 @@ module _ (file : List ℕ) (state : Image) (headed : 16 ≤ length file) (low : 
 
   pub state-bytes : state .level < 256 → Bytes file → Bytes (withState file state)
   unfolding levelled
-  state-bytes small bytes = state-edit Bytes (edit-bytes 4 (leBytes 2 (state .pointer)) levelled fits-pointer (leBytes-bytes 2 (state .pointer))
+  state-bytes small bytes = state-edit Bytes
+      (edit-bytes 4 (leBytes 2 (state .pointer)) levelled fits-pointer (leBytes-bytes 2 (state .pointer))
       (edit-bytes 2 (state .level ∷ []) file (omega arith) one bytes))
     where
       one : Bytes (state .level ∷ [])
@@ -225,7 +268,8 @@ module _ (file : List ℕ) (state : Image) (headed : 16 ≤ length file) (low : 
 
 -- what a sound bucket of the file shows
 pub bucket-shown : (file : List ℕ) (a : ℕ) → bucketSoundIn file a ≡ true
-    → Parts (slotsOf file) (level firstBuckets (stateOf file) a) (λ key. eqb (address firstBuckets (stateOf file) key) a) (regionOf file a)
+    → Parts (slotsOf file) (level firstBuckets (stateOf file) a)
+    (λ key. eqb (address firstBuckets (stateOf file) key) a) (regionOf file a)
 unfolding bucketSoundIn
 bucket-shown file a h = bucket-parts firstBuckets (stateOf file) (slotsOf file) a (regionOf file a) h
 
@@ -234,12 +278,14 @@ pub record Shown (file : List ℕ) (a : ℕ) : Type 0 where
   pub there : a < mostOf file
   pub bytes : Bytes (regionOf file a)
   pub long : length (regionOf file a) ≡ slotAt (slotsOf file)
-  pub parts : Parts (slotsOf file) (level firstBuckets (stateOf file) a) (λ key. eqb (address firstBuckets (stateOf file) key) a) (regionOf file a)
+  pub parts : Parts (slotsOf file) (level firstBuckets (stateOf file) a)
+      (λ key. eqb (address firstBuckets (stateOf file) key) a) (regionOf file a)
   pub whole : AllWhole (ridesOf (regionOf file a))
   pub count : length (ridesOf (regionOf file a)) ≡ countOf (regionOf file a)
   pub again : regionOf file a ≡ encode (slotsOf file) (level firstBuckets (stateOf file) a) (ridesOf (regionOf file a))
 
-pub shown : (file : List ℕ) → Ranges file → Bytes file → (a : ℕ) → a < bucketsOf file → bucketSoundIn file a ≡ true → Shown file a
+pub shown : (file : List ℕ) → Ranges file → Bytes file → (a : ℕ) → a < bucketsOf file → bucketSoundIn file a ≡ true
+    → Shown file a
 shown file seen bytes a exists sound = record {
   there = there;
   bytes = each;
@@ -254,24 +300,31 @@ shown file seen bytes a exists sound = record {
     there = omega (arith, exists, seen .few)
 
     each : Bytes (regionOf file a)
-    each = rw (region-is file a) (part-bytes (startOf (slotsOf file) a) (slotAt (slotsOf file)) file (region-fits file seen a there) bytes)
+    each = rw (region-is file a)
+        (part-bytes (startOf (slotsOf file) a) (slotAt (slotsOf file)) file (region-fits file seen a there) bytes)
 
     long : length (regionOf file a) ≡ slotAt (slotsOf file)
     long = length-region file a (region-fits file seen a there)
 
-    parts : Parts (slotsOf file) (level firstBuckets (stateOf file) a) (λ key. eqb (address firstBuckets (stateOf file) key) a) (regionOf file a)
+    parts : Parts (slotsOf file) (level firstBuckets (stateOf file) a)
+        (λ key. eqb (address firstBuckets (stateOf file) key) a) (regionOf file a)
     parts = bucket-shown file a sound
 
 -- ---- a ride, placed
 
-pub ride-placed : (file : List ℕ) (header : Header) → Known file header → Bytes file → (a : ℕ) → a < bucketsOf file → bucketSoundIn file a ≡ true
+pub ride-placed : (file : List ℕ) (header : Header) → Known file header → Bytes file → (a : ℕ) → a < bucketsOf file
+    → bucketSoundIn file a ≡ true
     → (ride : Ride) → Whole ride → (count : ℕ) → count ≡ countOf (regionOf file a) → count < header .slots
-    → (region after : List ℕ) → region ≡ regionOf file a → after ≡ edit 4 (leBytes 2 (count + 1)) (edit (slotAt count) (slotBytes ride) region)
+    → (region after : List ℕ) → region ≡ regionOf file a
+    → after ≡ edit 4 (leBytes 2 (count + 1)) (edit (slotAt count) (slotBytes ride) region)
     → withRegion file a after ≡ withRide file a ride
 unfolding withRide
-ride-placed file header seen bytes a exists sound ride whole count counted room region after er ea = ap (withRegion file a) (ea
-    ∙ ap₂ (λ (n : ℕ) (r : List ℕ). edit 4 (leBytes 2 (n + 1)) (edit (slotAt n) (slotBytes ride) r)) number (er ∙ bucket .again)
-    ∙ encode-more (slotsOf file) (level firstBuckets (stateOf file) a) (ridesOf (regionOf file a)) (bucket .whole) ride whole (omega (arith, number, seen .slots)))
+ride-placed file header seen bytes a exists sound ride whole count counted room region after er ea = ap
+    (withRegion file a) (ea
+    ∙ ap₂ (λ (n : ℕ) (r : List ℕ). edit 4 (leBytes 2 (n + 1)) (edit (slotAt n) (slotBytes ride) r)) number
+    (er ∙ bucket .again)
+    ∙ encode-more (slotsOf file) (level firstBuckets (stateOf file) a) (ridesOf (regionOf file a)) (bucket .whole) ride
+    whole (omega (arith, number, seen .slots)))
   where
     bucket : Shown file a
     bucket = shown file (seen .ranges) bytes a exists sound

@@ -27,7 +27,10 @@ same-length c = search needs
 returns : tie.Need-returns
 returns c =
     let a = c .before .before .before .before .before .before .before .before .before .before .before .before .args in
-    c .before .before .put2 .ensures ∙ ap (edit 4 (leBytes 2 (a .state .pointer))) (c .before .before .before .before .before .before .before .put .ensures) ∙ state-written (a .file .now) (a .state)
+    c .before .before .put2 .ensures
+    ∙ ap (edit 4 (leBytes 2 (a .state .pointer)))
+    (c .before .before .before .before .before .before .before .put .ensures)
+    ∙ state-written (a .file .now) (a .state)
 
 pub put-state-spec : {M : Type 1} → statement M
 put-state-spec =

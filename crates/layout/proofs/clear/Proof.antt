@@ -10,7 +10,8 @@ use Rattle.layout.proofs.clear.Statement.{statement}
 use Rattle.layout.proofs.clear.Tie as tie
 
 abbrev Inv-loop : tie.InvT-loop
-Inv-loop bytes₀ k₀ bytes k = (length bytes ≡ length bytes₀) × (k ≤ length bytes₀) × (bytes ≡ replicate k 0 ++ drop k bytes₀)
+Inv-loop bytes₀ k₀ bytes k = (length bytes ≡ length bytes₀) × (k ≤ length bytes₀)
+    × (bytes ≡ replicate k 0 ++ drop k bytes₀)
 
 abbrev μ-loop : tie.MeasureT-loop
 μ-loop bytes₀ k₀ bytes k = length bytes₀ - k

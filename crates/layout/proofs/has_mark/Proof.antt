@@ -34,8 +34,11 @@ returns : tie.Need-returns
 returns c =
     let a = c .before .before .before .before .before .before .args in
     let first = c .before .before .wide .ensures in
-    ap₂ eqb (c .before .before .before .before .read2 .ensures .0 ∙ sym (le-two (a .bytes .now) (a .at))) (ap₂ (λ (x y : ℕ). x + y * 256) (first .0) (c .wide2 .ensures .0))
-    ∙ two-same (getD (a .bytes .now) (a .at) 0) (getD (a .bytes .now) (a .at + 1) 0) (getD (a .mark .now) 0 0) (getD (a .mark .now) 1 0) (c .before .before .before .before .before .shared-slice-known .given (a .at) .fits) (omega (arith, first .0, first .1))
+    ap₂ eqb (c .before .before .before .before .read2 .ensures .0 ∙ sym (le-two (a .bytes .now) (a .at)))
+    (ap₂ (λ (x y : ℕ). x + y * 256) (first .0) (c .wide2 .ensures .0))
+    ∙ two-same (getD (a .bytes .now) (a .at) 0) (getD (a .bytes .now) (a .at + 1) 0) (getD (a .mark .now) 0 0)
+    (getD (a .mark .now) 1 0) (c .before .before .before .before .before .shared-slice-known .given (a .at) .fits)
+    (omega (arith, first .0, first .1))
 
 pub has-mark-spec : {M : Type 1} → statement M
 has-mark-spec =

@@ -10,7 +10,8 @@ use Rattle.layout.proofs.put.Statement.{statement}
 use Rattle.layout.proofs.put.Tie as tie
 
 abbrev Inv-loop : tie.InvT-loop
-Inv-loop bytes₀ at source k₀ bytes k = (k ≤ length source) × (length bytes ≡ length bytes₀) × (bytes ≡ paste bytes₀ at source k)
+Inv-loop bytes₀ at source k₀ bytes k = (k ≤ length source) × (length bytes ≡ length bytes₀)
+    × (bytes ≡ paste bytes₀ at source k)
 
 abbrev μ-loop : tie.MeasureT-loop
 μ-loop bytes₀ at source k₀ bytes k = length source - k
@@ -37,7 +38,8 @@ loop-again : tie.Need-loop-again Inv-loop μ-loop
 loop-again c =
     let a = c .before .before .before .args in
     let l = c .before .before .loop in
-    copy-more (a .at) (l .k) (a .source .now) (a .bytes .now) (l .bytes) (c .before .before .before .pre) (c .before .loop-test .taken) (l .inv .1) (l .inv .2)
+    copy-more (a .at) (l .k) (a .source .now) (a .bytes .now) (l .bytes) (c .before .before .before .pre)
+    (c .before .loop-test .taken) (l .inv .1) (l .inv .2)
 
 same-length : tie.Need-same-length Inv-loop μ-loop
 same-length c = c .before .loop .inv .1

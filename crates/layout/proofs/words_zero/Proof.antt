@@ -34,8 +34,11 @@ loop-less c = search needs
 
 loop-again : tie.Need-loop-again Inv-loop μ-loop
 loop-again c =
-    let l = c .before .before .loop in
-    (omega arith, words-more (c .before .before .before .before .args .bytes .now) (l .k) (l .seen) (c .read8 .result) (l .inv .1) (c .read8 .ensures))
+    let l = c .before .before .loop in (
+      omega arith,
+      words-more (c .before .before .before .before .args .bytes .now) (l .k) (l .seen) (c .read8 .result)
+          (l .inv .1) (c .read8 .ensures),
+    )
 
 returns : tie.Need-returns Inv-loop μ-loop
 returns c =
@@ -45,4 +48,5 @@ returns c =
     l .inv .1 ∙ ap (λ (n : ℕ). allBelow (λ (i : ℕ). eqb (getD (a .bytes .now) i 0) 0) (8 * n)) all
 
 pub words-zero-spec : {M : Type 1} → statement M
-words-zero-spec = tie.close (tie.spec Inv-loop μ-loop loop-holds mul-read8 read8-requires add-k loop-less loop-again returns)
+words-zero-spec = tie.close
+    (tie.spec Inv-loop μ-loop loop-holds mul-read8 read8-requires add-k loop-less loop-again returns)

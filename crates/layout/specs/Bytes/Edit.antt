@@ -1,4 +1,5 @@
--- What a write leaves: the bytes written, and every other byte as it was. Two lists are equal by their elements, so each law is read off these.
+-- What a write leaves: the bytes written, and every other byte as it was. Two lists are equal by their elements, so
+-- each law is read off these.
 use Prim.Native.Nat.{ℕ, zero, suc, _+_, _-_, _≤_, _<_}
 use mathlib.Core.Path.{_≡_, refl, sym, ap, ap₂, _∙_}
 use mathlib.Core.List.{List, [], _∷_, _++_, append-nil}
@@ -8,8 +9,11 @@ use native.Mathlib.Decide.{decLt}
 use native.Mathlib.Numerals.{add-one}
 use native.Mathlib.Omega.{arith}
 use borrow.Author.Fill.{fill-more}
-use lib.ListN.{length, getD, take, drop, replicate, length-append, length-drop, length-set, set, take-append-drop, List·getD-append, List·getD-eq-default}
-use lib.Seq.{ext-getD, getD-take, getD-drop, getD-append-add, length-take-le, paste, paste-suc, take-length, drop-length, take-append-seam, drop-append-seam, drop-append-add, take-add, drop-drop, drop-at, drop-cons, set-split, append-snoc}
+use lib.ListN.{length, getD, take, drop, replicate, length-append, length-drop, length-set, set, take-append-drop}
+use lib.ListN.{List·getD-append, List·getD-eq-default}
+use lib.Seq.{ext-getD, getD-take, getD-drop, getD-append-add, length-take-le, paste, paste-suc, take-length}
+use lib.Seq.{drop-length, take-append-seam, drop-append-seam, drop-append-add, take-add, drop-drop, drop-at, drop-cons}
+use lib.Seq.{set-split, append-snoc}
 use Rattle.layout.specs.Bytes.{Bytes, edit, part}
 
 -- an element of the second of two lists
@@ -32,7 +36,8 @@ module _ (at : ℕ) (ys xs : List ℕ) (fits : at + length ys ≤ length xs) whe
 
   pub length-edit : length (edit at ys xs) ≡ length xs
   unfolding edit
-  length-edit = omega (arith, length-append (take at xs ++ ys) (drop (at + length ys) xs), front, length-drop (at + length ys) xs)
+  length-edit = omega
+      (arith, length-append (take at xs ++ ys) (drop (at + length ys) xs), front, length-drop (at + length ys) xs)
 
   pub edit-before : (k : ℕ) → k < at → getD (edit at ys xs) k 0 ≡ getD xs k 0
   unfolding edit
@@ -76,37 +81,47 @@ module _ (at n : ℕ) (xs : List ℕ) where
   length-part fits = length-take-le n (drop at xs) (omega (arith, length-drop at xs))
 
 -- two lists with the same elements
-pub same-bytes : (xs ys : List ℕ) → length xs ≡ length ys → ((k : ℕ) → k < length xs → getD xs k 0 ≡ getD ys k 0) → xs ≡ ys
+pub same-bytes : (xs ys : List ℕ) → length xs ≡ length ys → ((k : ℕ) → k < length xs → getD xs k 0 ≡ getD ys k 0)
+    → xs ≡ ys
 same-bytes xs ys long each = ext-getD 0 xs ys long each
 
 -- what was written is read there
 pub part-edit : (at : ℕ) (ys xs : List ℕ) → at + length ys ≤ length xs → part at (length ys) (edit at ys xs) ≡ ys
 part-edit at ys xs fits = same-bytes (part at (length ys) (edit at ys xs)) ys long
-    (λ k h. part-at at (length ys) (edit at ys xs) k (omega (arith, long)) ∙ edit-in at ys xs fits k (omega (arith, long)))
+    (λ k h. part-at at (length ys) (edit at ys xs) k (omega (arith, long))
+    ∙ edit-in at ys xs fits k (omega (arith, long)))
   where
     long : length (part at (length ys) (edit at ys xs)) ≡ length ys
     long = length-part at (length ys) (edit at ys xs) (omega (arith, length-edit at ys xs fits))
 
 -- and a part before or behind it is as it was
-pub part-before : (at : ℕ) (ys xs : List ℕ) → at + length ys ≤ length xs → (p n : ℕ) → p + n ≤ at → part p n (edit at ys xs) ≡ part p n xs
-part-before at ys xs fits p n h = same-bytes (part p n (edit at ys xs)) (part p n xs) (long ∙ sym (length-part p n xs (omega arith)))
-    (λ k l. part-at p n (edit at ys xs) k (omega (arith, long)) ∙ edit-before at ys xs fits (p + k) (omega (arith, long)) ∙ sym (part-at p n xs k (omega (arith, long))))
+pub part-before : (at : ℕ) (ys xs : List ℕ) → at + length ys ≤ length xs → (p n : ℕ) → p + n ≤ at
+    → part p n (edit at ys xs) ≡ part p n xs
+part-before at ys xs fits p n h = same-bytes (part p n (edit at ys xs)) (part p n xs)
+    (long ∙ sym (length-part p n xs (omega arith)))
+    (λ k l. part-at p n (edit at ys xs) k (omega (arith, long))
+    ∙ edit-before at ys xs fits (p + k) (omega (arith, long)) ∙ sym (part-at p n xs k (omega (arith, long))))
   where
     long : length (part p n (edit at ys xs)) ≡ n
     long = length-part p n (edit at ys xs) (omega (arith, length-edit at ys xs fits))
 
-pub part-after : (at : ℕ) (ys xs : List ℕ) → at + length ys ≤ length xs → (p n : ℕ) → at + length ys ≤ p → p + n ≤ length xs
+pub part-after : (at : ℕ) (ys xs : List ℕ) → at + length ys ≤ length xs → (p n : ℕ) → at + length ys ≤ p
+    → p + n ≤ length xs
     → part p n (edit at ys xs) ≡ part p n xs
-part-after at ys xs fits p n h l = same-bytes (part p n (edit at ys xs)) (part p n xs) (long ∙ sym (length-part p n xs l))
-    (λ k m. part-at p n (edit at ys xs) k (omega (arith, long)) ∙ edit-after at ys xs fits (p + k) (omega arith) ∙ sym (part-at p n xs k (omega (arith, long))))
+part-after at ys xs fits p n h l = same-bytes (part p n (edit at ys xs)) (part p n xs)
+    (long ∙ sym (length-part p n xs l))
+    (λ k m. part-at p n (edit at ys xs) k (omega (arith, long)) ∙ edit-after at ys xs fits (p + k) (omega arith)
+    ∙ sym (part-at p n xs k (omega (arith, long))))
   where
     long : length (part p n (edit at ys xs)) ≡ n
     long = length-part p n (edit at ys xs) (omega (arith, length-edit at ys xs fits))
 
 -- a write right behind another is one write
-pub edit-next : (at : ℕ) (ys zs xs : List ℕ) → at + (length ys + length zs) ≤ length xs → edit (at + length ys) zs (edit at ys xs) ≡ edit at (ys ++ zs) xs
+pub edit-next : (at : ℕ) (ys zs xs : List ℕ) → at + (length ys + length zs) ≤ length xs
+    → edit (at + length ys) zs (edit at ys xs) ≡ edit at (ys ++ zs) xs
 edit-next at ys zs xs fits = same-bytes (edit (at + length ys) zs (edit at ys xs)) (edit at (ys ++ zs) xs)
-    (length-edit (at + length ys) zs (edit at ys xs) (omega (arith, once)) ∙ once ∙ sym (length-edit at (ys ++ zs) xs (omega (arith, both)))) (λ k h. each k)
+    (length-edit (at + length ys) zs (edit at ys xs) (omega (arith, once)) ∙ once
+    ∙ sym (length-edit at (ys ++ zs) xs (omega (arith, both)))) (λ k h. each k)
   where
     both : length (ys ++ zs) ≡ length ys + length zs
     both = length-append ys zs
@@ -121,12 +136,14 @@ edit-next at ys zs xs fits = same-bytes (edit (at + length ys) zs (edit at ys xs
         (λ m. first (k - at) (omega arith) (omega arith)))
         (λ l. by-cases (decLt k (at + length ys + length zs))
         (λ m. second (k - (at + length ys)) (omega arith) (omega arith))
-        (λ m. edit-after (at + length ys) zs (edit at ys xs) (omega (arith, once)) k (omega arith) ∙ edit-after at ys xs (omega arith) k (omega arith)
+        (λ m. edit-after (at + length ys) zs (edit at ys xs) (omega (arith, once)) k (omega arith)
+        ∙ edit-after at ys xs (omega arith) k (omega arith)
         ∙ sym (edit-after at (ys ++ zs) xs (omega (arith, both)) k (omega (arith, both)))))
       where
         first : (i : ℕ) → k ≡ at + i → i < length ys → getD (edit at ys xs) k 0 ≡ getD (edit at (ys ++ zs) xs) k 0
         first i e h = rw e (edit-in at ys xs (omega arith) i h
-            ∙ sym (edit-in at (ys ++ zs) xs (omega (arith, both)) i (omega (arith, both)) ∙ List·getD-append ys zs 0 i h))
+            ∙ sym
+            (edit-in at (ys ++ zs) xs (omega (arith, both)) i (omega (arith, both)) ∙ List·getD-append ys zs 0 i h))
 
         second : (i : ℕ) → k ≡ at + length ys + i → i < length zs
             → getD (edit (at + length ys) zs (edit at ys xs)) k 0 ≡ getD (edit at (ys ++ zs) xs) k 0
@@ -134,7 +151,8 @@ edit-next at ys zs xs fits = same-bytes (edit (at + length ys) zs (edit at ys xs
             ap (λ (j : ℕ). getD (edit (at + length ys) zs (edit at ys xs)) j 0) e
             ∙ edit-in (at + length ys) zs (edit at ys xs) (omega (arith, once)) i h
             ∙ sym (ap (λ (j : ℕ). getD (edit at (ys ++ zs) xs) j 0) (e ∙ add-assoc at (length ys) i)
-            ∙ edit-in at (ys ++ zs) xs (omega (arith, both)) (length ys + i) (omega (arith, both)) ∙ getD-append-add ys zs i 0)
+            ∙ edit-in at (ys ++ zs) xs (omega (arith, both)) (length ys + i) (omega (arith, both))
+            ∙ getD-append-add ys zs i 0)
 
 -- a write of bytes leaves bytes
 pub edit-bytes : (at : ℕ) (ys xs : List ℕ) → at + length ys ≤ length xs → Bytes ys → Bytes xs → Bytes (edit at ys xs)
@@ -165,17 +183,22 @@ part-bytes at n xs fits bx k = by-cases (decLt k n)
     (λ l. rw (List·getD-eq-default (part at n xs) 0 {n = k} (omega (arith, length-part at n xs fits))) (omega arith))
 
 -- a copy, byte by byte, is a write: one turn more, and the whole
-pub copy-more : (at k : ℕ) (ys xs now : List ℕ) → at + length ys ≤ length xs → k < length ys → length now ≡ length xs → now ≡ paste xs at ys k
-    → (k + 1 ≤ length ys) × (length (set now (at + k) (getD ys k 0)) ≡ length xs) × (set now (at + k) (getD ys k 0) ≡ paste xs at ys (k + 1))
+pub copy-more : (at k : ℕ) (ys xs now : List ℕ) → at + length ys ≤ length xs → k < length ys → length now ≡ length xs
+    → now ≡ paste xs at ys k
+    → (k + 1 ≤ length ys) × (length (set now (at + k) (getD ys k 0)) ≡ length xs)
+    × (set now (at + k) (getD ys k 0) ≡ paste xs at ys (k + 1))
 copy-more at k ys xs now fits more long so = (
   omega arith,
   length-set now (at + k) (getD ys k 0) ∙ long,
-  ap (λ (zs : List ℕ). set zs (at + k) (getD ys k 0)) so ∙ paste-suc xs at ys k 0 (omega arith) more ∙ ap (paste xs at ys) (sym (add-one k)),
+  ap (λ (zs : List ℕ). set zs (at + k) (getD ys k 0)) so ∙ paste-suc xs at ys k 0 (omega arith) more
+      ∙ ap (paste xs at ys) (sym (add-one k)),
 )
 
-pub copy-done : (at k : ℕ) (ys xs now : List ℕ) → k ≤ length ys → length ys ≤ k → now ≡ paste xs at ys k → now ≡ edit at ys xs
+pub copy-done : (at k : ℕ) (ys xs now : List ℕ) → k ≤ length ys → length ys ≤ k → now ≡ paste xs at ys k
+    → now ≡ edit at ys xs
 unfolding edit
-copy-done at k ys xs now below above so = so ∙ ap (paste xs at ys) all ∙ ap (λ (zs : List ℕ). take at xs ++ zs ++ drop (at + length ys) xs) (take-length ys)
+copy-done at k ys xs now below above so = so ∙ ap (paste xs at ys) all
+    ∙ ap (λ (zs : List ℕ). take at xs ++ zs ++ drop (at + length ys) xs) (take-length ys)
   where
     all : k ≡ length ys
     all = omega arith
@@ -183,10 +206,13 @@ copy-done at k ys xs now below above so = so ∙ ap (paste xs at ys) all ∙ ap 
 -- zeros, one turn more, and all
 pub clear-more : (k : ℕ) (xs now : List ℕ) → k < length xs → length now ≡ length xs → now ≡ replicate k 0 ++ drop k xs
     → (length (set now k 0) ≡ length xs) × (k + 1 ≤ length xs) × (set now k 0 ≡ replicate (k + 1) 0 ++ drop (k + 1) xs)
-clear-more k xs now more long so = (length-set now k 0 ∙ long, omega arith, ap (λ (zs : List ℕ). set zs k 0) so ∙ fill-more k 0 xs more)
+clear-more k xs now more long so =
+    (length-set now k 0 ∙ long, omega arith, ap (λ (zs : List ℕ). set zs k 0) so ∙ fill-more k 0 xs more)
 
-pub clear-done : (k : ℕ) (xs now : List ℕ) → k ≤ length xs → length xs ≤ k → now ≡ replicate k 0 ++ drop k xs → now ≡ replicate (length xs) 0
-clear-done k xs now below above so = so ∙ ap (λ (i : ℕ). replicate i 0 ++ drop i xs) all ∙ ap (λ (zs : List ℕ). replicate (length xs) 0 ++ zs) (drop-length xs) ∙ append-nil (replicate (length xs) 0)
+pub clear-done : (k : ℕ) (xs now : List ℕ) → k ≤ length xs → length xs ≤ k → now ≡ replicate k 0 ++ drop k xs
+    → now ≡ replicate (length xs) 0
+clear-done k xs now below above so = so ∙ ap (λ (i : ℕ). replicate i 0 ++ drop i xs) all
+    ∙ ap (λ (zs : List ℕ). replicate (length xs) 0 ++ zs) (drop-length xs) ∙ append-nil (replicate (length xs) 0)
   where
     all : k ≡ length xs
     all = omega arith
@@ -194,17 +220,20 @@ clear-done k xs now below above so = so ∙ ap (λ (i : ℕ). replicate i 0 ++ d
 -- a write at the seam of two lists replaces the front of the second
 pub edit-seam : (ps ys zs : List ℕ) (at : ℕ) → length ps ≡ at → edit at ys (ps ++ zs) ≡ ps ++ ys ++ drop (length ys) zs
 unfolding edit
-edit-seam ps ys zs at e = rw (← e) (ap₂ (λ (f b : List ℕ). f ++ ys ++ b) (take-append-seam ps zs) (drop-append-add ps zs (length ys)))
+edit-seam ps ys zs at e = rw (← e)
+    (ap₂ (λ (f b : List ℕ). f ++ ys ++ b) (take-append-seam ps zs) (drop-append-add ps zs (length ys)))
 
 -- a part, and the part behind it
 pub part-split : (at n m : ℕ) (xs : List ℕ) → part at (n + m) xs ≡ part at n xs ++ part (at + n) m xs
 unfolding part
-part-split at n m xs = take-add n m (drop at xs) ∙ ap (λ (zs : List ℕ). take n (drop at xs) ++ take m zs) (drop-drop n at xs)
+part-split at n m xs = take-add n m (drop at xs)
+    ∙ ap (λ (zs : List ℕ). take n (drop at xs) ++ take m zs) (drop-drop n at xs)
 
 -- all behind a place is a part and all behind that
 pub drop-split : (at n : ℕ) (xs : List ℕ) → drop at xs ≡ part at n xs ++ drop (at + n) xs
 unfolding part
-drop-split at n xs = sym (take-append-drop n (drop at xs)) ∙ ap (λ (zs : List ℕ). take n (drop at xs) ++ zs) (drop-drop n at xs)
+drop-split at n xs = sym (take-append-drop n (drop at xs))
+    ∙ ap (λ (zs : List ℕ). take n (drop at xs) ++ zs) (drop-drop n at xs)
 
 -- a part of what is left behind a place
 pub part-drop : (s at n : ℕ) (xs : List ℕ) → part at n (drop s xs) ≡ part (s + at) n xs
@@ -228,14 +257,16 @@ part-front n xs = refl
 
 -- a write over all of a list
 pub edit-all : (ys xs : List ℕ) → length ys ≡ length xs → edit 0 ys xs ≡ ys
-edit-all ys xs same = edit-is 0 ys xs ∙ ap (λ (l : List ℕ). ys ++ l) (ap (λ (n : ℕ). drop n xs) end ∙ drop-length xs) ∙ append-nil ys
+edit-all ys xs same = edit-is 0 ys xs ∙ ap (λ (l : List ℕ). ys ++ l) (ap (λ (n : ℕ). drop n xs) end ∙ drop-length xs)
+    ∙ append-nil ys
   where
     end : 0 + length ys ≡ length xs
     end = omega arith
 
 -- a part of a part
 pub part-part : (s m p n : ℕ) (xs : List ℕ) → p + n ≤ m → s + m ≤ length xs → part p n (part s m xs) ≡ part (s + p) n xs
-part-part s m p n xs inside fits = same-bytes (part p n (part s m xs)) (part (s + p) n xs) (long ∙ sym (length-part (s + p) n xs (omega arith)))
+part-part s m p n xs inside fits = same-bytes (part p n (part s m xs)) (part (s + p) n xs)
+    (long ∙ sym (length-part (s + p) n xs (omega arith)))
     (λ k h. part-at p n (part s m xs) k (omega (arith, long)) ∙ part-at s m xs (p + k) (omega (arith, long))
     ∙ ap (λ (i : ℕ). getD xs i 0) (sym (add-assoc s p k)) ∙ sym (part-at (s + p) n xs k (omega (arith, long))))
   where
@@ -246,15 +277,18 @@ part-part s m p n xs inside fits = same-bytes (part p n (part s m xs)) (part (s 
 pub edit-nothing : (at : ℕ) (xs : List ℕ) → edit at [] xs ≡ xs
 edit-nothing at xs = edit-is at [] xs ∙ rw (add-zero at, append-nil (take at xs)) (take-append-drop at xs)
 
-pub edit-first : (at y : ℕ) (ys xs : List ℕ) → at + (1 + length ys) ≤ length xs → edit (at + 1) ys (set xs at y) ≡ edit at (y ∷ ys) xs
+pub edit-first : (at y : ℕ) (ys xs : List ℕ) → at + (1 + length ys) ≤ length xs
+    → edit (at + 1) ys (set xs at y) ≡ edit at (y ∷ ys) xs
 edit-first at y ys xs fits = ap (edit (at + 1) ys) one ∙ edit-next at (y ∷ []) ys xs fits
   where
     one : set xs at y ≡ edit at (y ∷ []) xs
-    one = set-split xs at y (omega arith) ∙ sym (edit-is at (y ∷ []) xs ∙ rw (add-one at) (append-snoc (take at xs) y (drop (suc at) xs)))
+    one = set-split xs at y (omega arith)
+        ∙ sym (edit-is at (y ∷ []) xs ∙ rw (add-one at) (append-snoc (take at xs) y (drop (suc at) xs)))
 
 -- a write at a list's start, and what it leaves behind it
 pub front-written : (ys xs : List ℕ) → take (length ys) (edit 0 ys xs) ≡ ys
 front-written ys xs = ap (take (length ys)) (edit-is 0 ys xs) ∙ take-append-seam ys (drop (0 + length ys) xs)
 
 pub rest-left : (ys xs : List ℕ) → drop (length ys) (edit 0 ys xs) ≡ drop (length ys) xs
-rest-left ys xs = ap (drop (length ys)) (edit-is 0 ys xs) ∙ drop-append-seam ys (drop (0 + length ys) xs) ∙ ap (λ (n : ℕ). drop n xs) (zero-add (length ys))
+rest-left ys xs = ap (drop (length ys)) (edit-is 0 ys xs) ∙ drop-append-seam ys (drop (0 + length ys) xs)
+    ∙ ap (λ (n : ℕ). drop n xs) (zero-add (length ys))

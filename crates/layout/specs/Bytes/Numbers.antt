@@ -28,7 +28,8 @@ leBytes-bytes (suc n) x zero = omega arith
 leBytes-bytes (suc n) x (suc k) = leBytes-bytes n (x / 256) k
 
 -- the same bytes are the same number
-pub le-same : (n : ℕ) (xs ys : List ℕ) (p q : ℕ) → ((k : ℕ) → k < n → getD xs (p + k) 0 ≡ getD ys (q + k) 0) → leAt n xs p ≡ leAt n ys q
+pub le-same : (n : ℕ) (xs ys : List ℕ) (p q : ℕ) → ((k : ℕ) → k < n → getD xs (p + k) 0 ≡ getD ys (q + k) 0)
+    → leAt n xs p ≡ leAt n ys q
 unfolding leAt
 le-same zero xs ys p q same = refl
 le-same (suc n) xs ys p q same = omega (arith, first, le-same n xs ys (suc p) (suc q) next)
@@ -63,7 +64,8 @@ le-back (suc n) x h rest = omega (
 pub le-again : (n : ℕ) (xs : List ℕ) (at : ℕ) → Bytes xs → at + n ≤ length xs → leBytes n (leAt n xs at) ≡ part at n xs
 unfolding leBytes leAt part
 le-again zero xs at b fits = refl
-le-again (suc n) xs at b fits = rw (drop-cons xs at 0 (omega arith)) (ap₂ _∷_ low (ap (leBytes n) high ∙ le-again n xs (suc at) b (omega arith)))
+le-again (suc n) xs at b fits = rw (drop-cons xs at 0 (omega arith))
+    (ap₂ _∷_ low (ap (leBytes n) high ∙ le-again n xs (suc at) b (omega arith)))
   where
     low : (getD xs at 0 + 256 * leAt n xs (suc at)) % 256 ≡ getD xs at 0
     low = omega (arith, b at)
@@ -77,10 +79,13 @@ unfolding leAt
 le-two xs at = rw (add-one at) (omega arith)
 
 pub le-eight : (xs : List ℕ) (at : ℕ)
-    → getD xs at 0 + getD xs (at + 1) 0 * 256 + getD xs (at + 2) 0 * 65536 + getD xs (at + 3) 0 * 16777216 + getD xs (at + 4) 0 * 4294967296
-    + getD xs (at + 5) 0 * 1099511627776 + getD xs (at + 6) 0 * 281474976710656 + getD xs (at + 7) 0 * 72057594037927936 ≡ leAt 8 xs at
+    → getD xs at 0 + getD xs (at + 1) 0 * 256 + getD xs (at + 2) 0 * 65536 + getD xs (at + 3) 0 * 16777216
+    + getD xs (at + 4) 0 * 4294967296
+    + getD xs (at + 5) 0 * 1099511627776 + getD xs (at + 6) 0 * 281474976710656 + getD xs (at + 7) 0 * 72057594037927936
+    ≡ leAt 8 xs at
 unfolding leAt
-le-eight xs at = rw (add-one at, add-two at, add-three at, add-four at, add-five at, add-six at, add-seven at) (omega arith)
+le-eight xs at = rw (add-one at, add-two at, add-three at, add-four at, add-five at, add-six at, add-seven at)
+    (omega arith)
 
 -- the bytes that one store writes
 pub leBytes-two : (x : ℕ) → leBytes 2 x ≡ x % 256 ∷ x / 256 % 256 ∷ []
@@ -88,21 +93,28 @@ unfolding leBytes
 leBytes-two x = refl
 
 pub leBytes-eight : (x : ℕ)
-    → leBytes 8 x ≡ x % 256 ∷ x / 256 % 256 ∷ x / 256 / 256 % 256 ∷ x / 256 / 256 / 256 % 256 ∷ x / 256 / 256 / 256 / 256 % 256
-    ∷ x / 256 / 256 / 256 / 256 / 256 % 256 ∷ x / 256 / 256 / 256 / 256 / 256 / 256 % 256 ∷ x / 256 / 256 / 256 / 256 / 256 / 256 / 256 % 256 ∷ []
+    → leBytes 8 x ≡ x % 256 ∷ x / 256 % 256 ∷ x / 256 / 256 % 256 ∷ x / 256 / 256 / 256 % 256
+    ∷ x / 256 / 256 / 256 / 256 % 256
+    ∷ x / 256 / 256 / 256 / 256 / 256 % 256 ∷ x / 256 / 256 / 256 / 256 / 256 / 256 % 256
+    ∷ x / 256 / 256 / 256 / 256 / 256 / 256 / 256 % 256 ∷ []
 unfolding leBytes
 leBytes-eight x = refl
 
 -- a number behind a place, and one that stands behind a list
 pub le-drop : (n : ℕ) (xs : List ℕ) (s at : ℕ) → leAt n (drop s xs) at ≡ leAt n xs (s + at)
-le-drop n xs s at = le-same n (drop s xs) xs at (s + at) (λ k h. getD-drop s xs (at + k) 0 ∙ ap (λ (i : ℕ). getD xs i 0) (sym (add-assoc s at k)))
+le-drop n xs s at = le-same n (drop s xs) xs at (s + at)
+    (λ k h. getD-drop s xs (at + k) 0 ∙ ap (λ (i : ℕ). getD xs i 0) (sym (add-assoc s at k)))
 
 pub le-seam : (n : ℕ) (ps xs : List ℕ) (at : ℕ) → length ps ≡ at → leAt n (ps ++ xs) at ≡ leAt n xs 0
-le-seam n ps xs at e = sym (le-same n xs (ps ++ xs) 0 at (λ k h. ap (λ (i : ℕ). getD xs i 0) (zero-add k) ∙ sym (ap (λ (i : ℕ). getD (ps ++ xs) (i + k) 0) (sym e) ∙ getD-append-add ps xs k 0)))
+le-seam n ps xs at e = sym
+    (le-same n xs (ps ++ xs) 0 at
+    (λ k h. ap (λ (i : ℕ). getD xs i 0) (zero-add k)
+    ∙ sym (ap (λ (i : ℕ). getD (ps ++ xs) (i + k) 0) (sym e) ∙ getD-append-add ps xs k 0)))
 
 -- a number in a part
 pub le-part : (n : ℕ) (xs : List ℕ) (s m at : ℕ) → at + n ≤ m → leAt n (part s m xs) at ≡ leAt n xs (s + at)
-le-part n xs s m at h = le-same n (part s m xs) xs at (s + at) (λ k l. part-at s m xs (at + k) (omega arith) ∙ ap (λ (i : ℕ). getD xs i 0) (sym (add-assoc s at k)))
+le-part n xs s m at h = le-same n (part s m xs) xs at (s + at)
+    (λ k l. part-at s m xs (at + k) (omega arith) ∙ ap (λ (i : ℕ). getD xs i 0) (sym (add-assoc s at k)))
 
 -- two bytes are another two exactly if their numbers are equal
 pub two-same : (x y p q : ℕ) → x < 256 → p < 256 → eqb (x + y * 256) (p + q * 256) ≡ (eqb x p && eqb y q)
@@ -127,16 +139,20 @@ or-none a b = by-cases (ℕ-discrete a 0)
     (λ e. rw (ne-eqb a 0 e) (ne-eqb (bitOr a b) 0 (λ z. e (omega (arith, or-add-and a b, and-le-r a b)))))
 
 -- the bytes before a place and the number there are zero if all these bytes are
-zero-number : (xs : List ℕ) (n at : ℕ) → allBelow (λ i. eqb (getD xs i 0) 0) (at + n) ≡ (allBelow (λ i. eqb (getD xs i 0) 0) at && eqb (leAt n xs at) 0)
+zero-number : (xs : List ℕ) (n at : ℕ)
+    → allBelow (λ i. eqb (getD xs i 0) 0) (at + n) ≡ (allBelow (λ i. eqb (getD xs i 0) 0) at && eqb (leAt n xs at) 0)
 unfolding leAt allBelow
-zero-number xs zero at = ap (allBelow (λ i. eqb (getD xs i 0) 0)) (add-zero at) ∙ sym (and-true (allBelow (λ i. eqb (getD xs i 0) 0) at))
+zero-number xs zero at = ap (allBelow (λ i. eqb (getD xs i 0) 0)) (add-zero at)
+    ∙ sym (and-true (allBelow (λ i. eqb (getD xs i 0) 0) at))
 zero-number xs (suc n) at =
     ap (allBelow (λ i. eqb (getD xs i 0) 0)) (add-suc at n ∙ sym (suc-add at n))
     ∙ zero-number xs n (suc at)
     ∙ and-assoc (allBelow (λ i. eqb (getD xs i 0) 0) at) (eqb (getD xs at 0) 0) (eqb (leAt n xs (suc at)) 0)
-    ∙ ap (λ (b : Bool). allBelow (λ i. eqb (getD xs i 0) 0) at && b) (sym (sum-none (getD xs at 0) (leAt n xs (suc at))))
+    ∙ ap (λ (b : Bool). allBelow (λ i. eqb (getD xs i 0) 0) at && b)
+    (sym (sum-none (getD xs at 0) (leAt n xs (suc at))))
 
-pub words-more : (xs : List ℕ) (k seen word : ℕ) → eqb seen 0 ≡ allBelow (λ i. eqb (getD xs i 0) 0) (8 * k) → word ≡ leAt 8 xs (8 * k)
+pub words-more : (xs : List ℕ) (k seen word : ℕ) → eqb seen 0 ≡ allBelow (λ i. eqb (getD xs i 0) 0) (8 * k)
+    → word ≡ leAt 8 xs (8 * k)
     → eqb (bitOr seen word) 0 ≡ allBelow (λ i. eqb (getD xs i 0) 0) (8 * (k + 1))
 words-more xs k seen word so e =
     or-none seen word

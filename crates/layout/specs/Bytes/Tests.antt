@@ -42,7 +42,8 @@ all-at test (suc n) k h l = ⊎-elim
 pub all-of : (test : ℕ → Bool) (n : ℕ) → ((k : ℕ) → k < n → test k ≡ true) → allBelow test n ≡ true
 unfolding allBelow
 all-of test zero h = refl
-all-of test (suc n) h = and-both (allBelow test n) (test n) (all-of test n (λ k l. h k (omega arith))) (h n (omega arith))
+all-of test (suc n) h = and-both (allBelow test n) (test n) (all-of test n (λ k l. h k (omega arith)))
+    (h n (omega arith))
 
 -- one failure fails the whole
 pub all-fails : (test : ℕ → Bool) (n k : ℕ) → k < n → test k ≡ false → allBelow test n ≡ false
@@ -66,7 +67,8 @@ pub zero-more : (xs : List ℕ) (k : ℕ) (clean : Bool) → clean ≡ allBelow 
     → (clean && eqb (getD xs k 0) 0) ≡ allBelow (λ i. eqb (getD xs i 0) 0) (k + 1)
 zero-more xs k clean so = ap (λ (b : Bool). b && eqb (getD xs k 0) 0) so ∙ sym (all-more (λ i. eqb (getD xs i 0) 0) k)
 
-pub zero-done : (xs : List ℕ) (k : ℕ) (clean : Bool) → k ≤ length xs → length xs ≤ k → clean ≡ allBelow (λ i. eqb (getD xs i 0) 0) k → clean ≡ allZero xs
+pub zero-done : (xs : List ℕ) (k : ℕ) (clean : Bool) → k ≤ length xs → length xs ≤ k
+    → clean ≡ allBelow (λ i. eqb (getD xs i 0) 0) k → clean ≡ allZero xs
 unfolding allZero
 zero-done xs k clean below above so = so ∙ ap (allBelow (λ i. eqb (getD xs i 0) 0)) all
   where
@@ -77,7 +79,8 @@ zero-done xs k clean below above so = so ∙ ap (allBelow (λ i. eqb (getD xs i 
 pub zero-replicate : (xs : List ℕ) → allZero xs ≡ true → xs ≡ replicate (length xs) 0
 unfolding allZero
 zero-replicate xs h = ext-getD 0 xs (replicate (length xs) 0) (sym (length-replicate (length xs) 0))
-    (λ k l. eqb-true (getD xs k 0) 0 (all-at (λ i. eqb (getD xs i 0) 0) (length xs) k h l) ∙ sym (getD-replicate (length xs) k 0 0 l))
+    (λ k l. eqb-true (getD xs k 0) 0 (all-at (λ i. eqb (getD xs i 0) 0) (length xs) k h l)
+    ∙ sym (getD-replicate (length xs) k 0 0 l))
 
 pub zero-all : (xs : List ℕ) → ((k : ℕ) → k < length xs → getD xs k 0 ≡ 0) → allZero xs ≡ true
 unfolding allZero
@@ -96,7 +99,8 @@ first-here test e k h t = ap (λ (c : ℕ). firstFrom test c k) more ∙ rw t
     more : e - k ≡ suc (e - suc k)
     more = omega arith
 
-pub first-later : (test : ℕ → Bool) (e k : ℕ) → k < e → test k ≡ false → firstFrom test (e - k) k ≡ firstFrom test (e - (k + 1)) (k + 1)
+pub first-later : (test : ℕ → Bool) (e k : ℕ) → k < e → test k ≡ false
+    → firstFrom test (e - k) k ≡ firstFrom test (e - (k + 1)) (k + 1)
 unfolding firstFrom
 first-later test e k h t = ap (λ (c : ℕ). firstFrom test c k) more ∙ rw (t, add-one k)
   where
@@ -136,6 +140,7 @@ unfolding firstFrom
 first-before test zero k i low high = absurd (omega arith)
 first-before test (suc c) k i low high = go (test k) refl (first-before test c (suc k) i) high
   where
-    go : (b : Bool) → test k ≡ b → (suc k ≤ i → i < firstFrom test c (suc k) → test i ≡ false) → i < cond b k (firstFrom test c (suc k)) → test i ≡ false
+    go : (b : Bool) → test k ≡ b → (suc k ≤ i → i < firstFrom test c (suc k) → test i ≡ false)
+        → i < cond b k (firstFrom test c (suc k)) → test i ≡ false
     go true e rest l = absurd (omega arith)
     go false e rest l = ⊎-elim (λ same. ap test (sym same) ∙ e) (λ more. rest more l) (eq-or-lt-of-le low)

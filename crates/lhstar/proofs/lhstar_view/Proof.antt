@@ -24,12 +24,17 @@ header-of-requires c κs = search needs
 cast-start : tie.Need-cast-start
 cast-start c =
     let a = c .before .before .before .before .args in
-    omega (arith, viewed-few (a .file .now) (a .bucket) _ (ap length (c .before .before .view .ensures)) (c .before .if1 .left) .1)
+    omega (
+      arith,
+      viewed-few (a .file .now) (a .bucket) _ (ap length (c .before .before .view .ensures))
+          (c .before .if1 .left) .1,
+    )
 
 start-requires : tie.Need-start-requires
 start-requires c κs =
     let a = c .before .before .before .before .args in
-    let few = viewed-few (a .file .now) (a .bucket) _ (ap length (c .before .before .view .ensures)) (c .before .if1 .left) in
+    let few = viewed-few (a .file .now) (a .bucket) _ (ap length (c .before .before .view .ensures))
+    (c .before .if1 .left) in
     (omega (arith, few .0, ap (λ (h : Header). h .slots) (c .header-of .ensures)), few .1)
 
 add-t10 : tie.Need-add-t10
@@ -38,8 +43,13 @@ add-t10 c = search needs
 returns-2 : tie.Need-returns-2
 returns-2 c =
     let a = c .before .before .before .before .before .args in
-    let long = ap length (c .before .before .before .view .ensures) in
-    (ap (λ (n : ℕ). n + 8) (c .start .ensures .0 ∙ ap (λ (h : Header). startOf (h .slots) (a .bucket)) (c .before .header-of .ensures)) ∙ view-start (a .file .now) (a .bucket) _ long (c .before .before .if1 .left), view-length (a .file .now) (a .bucket) _ long)
+    let long = ap length (c .before .before .before .view .ensures) in (
+      ap (λ (n : ℕ). n + 8)
+          (c .start .ensures .0 ∙ ap (λ (h : Header). startOf (h .slots) (a .bucket)) (c .before .header-of .ensures))
+          ∙ view-start (a .file .now) (a .bucket) _ long (c .before .before .if1 .left),
+      view-length (a .file .now)
+          (a .bucket) _ long,
+    )
 
 pub lhstar-view-spec : {M : Type 1} → statement M
 lhstar-view-spec =

@@ -1,4 +1,5 @@
--- `lines::put_number` writes the digits of x / 10 by a call of itself, and then the last digit: the two cases of `decimal`. The measure is x.
+-- `lines::put_number` writes the digits of x / 10 by a call of itself, and then the last digit: the two cases of
+-- `decimal`. The measure is x.
 use Prim.Native.Nat.{ℕ, _<_}
 use native.Mathlib.Omega.{arith}
 use borrow.Author.Needs.{needs}
@@ -40,7 +41,8 @@ module _ (t : ℕ) where
   same-length c = search needs
 
   returns : put-number-lts.Need-returns told given put-number.Post
-  returns c = rw (decimal-one (c .before .before .before .before .before .before .args .x) (omega arith)) (c .before .before .put-byte .ensures)
+  returns c = rw (decimal-one (c .before .before .before .before .before .before .args .x) (omega arith))
+      (c .before .before .put-byte .ensures)
 
   put-number-requires : put-number-lts.Need-put-number-requires told given put-number.Post
   put-number-requires c κs = omega (arith, decimal-tail (c .before .before .before .args .x) (omega arith))
@@ -52,14 +54,18 @@ module _ (t : ℕ) where
   cast-put-byte-2 c = omega arith
 
   put-byte-requires-2 : put-number-lts.Need-put-byte-requires-2 told given put-number.Post
-  put-byte-requires-2 c κs = omega (arith, decimal-tail (c .before .before .before .before .before .before .before .args .x) (omega arith))
+  put-byte-requires-2 c κs = omega
+      (arith, decimal-tail (c .before .before .before .before .before .before .before .args .x) (omega arith))
 
   same-length-2 : put-number-lts.Need-same-length-2 told given put-number.Post
   same-length-2 c = search needs
 
   returns-2 : put-number-lts.Need-returns-2 told given put-number.Post
-  returns-2 c = rw (decimal-more (c .before .before .before .before .before .before .before .before .before .before .args .x) (omega arith))
-      (wrote-both (c .before .before .before .before .before .before .put-number .ensures) (c .before .before .put-byte2 .ensures))
+  returns-2 c = rw
+      (decimal-more (c .before .before .before .before .before .before .before .before .before .before .args .x)
+      (omega arith))
+      (wrote-both (c .before .before .before .before .before .before .put-number .ensures)
+      (c .before .before .put-byte2 .ensures))
 
 pub +put-number-spec : {M : Type 1} → statement M
 +put-number-spec = close μ-put-number (λ t. put-number-lts.spec (told t) (given t) put-number.Post

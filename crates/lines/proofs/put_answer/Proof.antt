@@ -15,13 +15,23 @@ put-joined-requires : tie.Need-put-joined-requires
 put-joined-requires c κs =
     let e = c .before .before .before .before .before in
     let a = e .before .before .args in
-    omega (arith, heading-short (a .letter) (a .reply) (omega arith), joined-short 62 (a .route .now) (λ i. e .shared-slice-known .given i .fits))
+    omega (
+      arith,
+      heading-short (a .letter) (a .reply) (omega arith),
+      joined-short 62 (a .route .now)
+          (λ i. e .shared-slice-known .given i .fits),
+    )
 
 put-byte-requires : tie.Need-put-byte-requires
 put-byte-requires c κs =
     let e = c .before .before .before .before .before .before .before .before .before in
     let a = e .before .before .args in
-    omega (arith, heading-short (a .letter) (a .reply) (omega arith), joined-short 62 (a .route .now) (λ i. e .shared-slice-known .given i .fits))
+    omega (
+      arith,
+      heading-short (a .letter) (a .reply) (omega arith),
+      joined-short 62 (a .route .now)
+          (λ i. e .shared-slice-known .given i .fits),
+    )
 
 same-length : tie.Need-same-length
 same-length c = search needs
@@ -34,8 +44,10 @@ returns c =
     let e = h .before .before in
     let a = e .before .before .args in
     record {
-      wrote = rw (answer-is (a .letter) (a .reply) (a .route .now)) (wrote-both (wrote-both (h .put-heading .ensures) (s .put-joined .ensures)) (f .put-byte .ensures));
-      short = answer-short (a .letter) (a .reply) (a .route .now) (omega arith) (λ i. e .shared-slice-known .given i .fits);
+      wrote = rw (answer-is (a .letter) (a .reply) (a .route .now))
+          (wrote-both (wrote-both (h .put-heading .ensures) (s .put-joined .ensures)) (f .put-byte .ensures));
+      short = answer-short (a .letter) (a .reply) (a .route .now) (omega arith)
+          (λ i. e .shared-slice-known .given i .fits);
     }
 
 pub put-answer-spec : {M : Type 1} → statement M

@@ -19,7 +19,8 @@ same-length c = search needs
 returns : tie.Need-returns
 returns c =
     let a = c .before .before .before .before .before .before .args in
-    rw (split-refused (a .reply) (a .old) (a .new) (c .before .before .before .before .if1 .taken)) (c .before .before .put-byte .ensures)
+    rw (split-refused (a .reply) (a .old) (a .new) (c .before .before .before .before .if1 .taken))
+    (c .before .before .put-byte .ensures)
 
 put-number-requires : tie.Need-put-number-requires
 put-number-requires c κs =
@@ -34,7 +35,11 @@ put-byte-requires-2 c κs =
 put-number-requires-2 : tie.Need-put-number-requires-2
 put-number-requires-2 c κs =
     let a = c .before .before .before .before .before .before .before .before .before .before .before .args in
-    omega (arith, split-length (a .reply) (a .old) (a .new) (c .before .before .before .before .before .before .before .before .before .if1 .left))
+    omega (
+      arith,
+      split-length (a .reply) (a .old) (a .new)
+          (c .before .before .before .before .before .before .before .before .before .if1 .left),
+    )
 
 same-length-2 : tie.Need-same-length-2
 same-length-2 c = search needs
@@ -45,7 +50,8 @@ returns-2 c =
     let s = n .before .before .before .before in
     let v = s .before .before .before .before in
     let a = v .before .before .before .before .args in
-    rw (split-done (a .reply) (a .old) (a .new) (v .before .before .if1 .left)) (wrote-both (v .put-number .ensures) (wrote-both (s .put-byte2 .ensures) (n .put-number2 .ensures)))
+    rw (split-done (a .reply) (a .old) (a .new) (v .before .before .if1 .left))
+    (wrote-both (v .put-number .ensures) (wrote-both (s .put-byte2 .ensures) (n .put-number2 .ensures)))
 
 pub put-buckets-spec : {M : Type 1} → statement M
 put-buckets-spec =

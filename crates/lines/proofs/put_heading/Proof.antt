@@ -36,7 +36,9 @@ returns c =
     let s = r .before .before .before .before in
     let l = s .before .before .before .before in
     let a = l .before .before .before .args in
-    rw (heading-is (a .letter) (a .reply)) (wrote-both (wrote-both (wrote-both (l .put-byte .ensures) (s .put-byte2 .ensures)) (r .put-number .ensures)) (d .put-byte3 .ensures))
+    rw (heading-is (a .letter) (a .reply))
+    (wrote-both (wrote-both (wrote-both (l .put-byte .ensures) (s .put-byte2 .ensures)) (r .put-number .ensures))
+    (d .put-byte3 .ensures))
 
 pub put-heading-spec : {M : Type 1} → statement M
 put-heading-spec =

@@ -19,7 +19,8 @@ same-length c = search needs
 returns : tie.Need-returns
 returns c =
     let a = c .before .before .before .before .before .before .before .args in
-    rw (joined-none (a .separator) (a .numbers .now) (c .before .before .before .before .if1 .taken)) (c .before .before .put-byte .ensures)
+    rw (joined-none (a .separator) (a .numbers .now) (c .before .before .before .before .if1 .taken))
+    (c .before .before .put-byte .ensures)
 
 shared-slice-read-put-number : tie.Need-shared-slice-read-put-number
 shared-slice-read-put-number c = search needs
@@ -44,7 +45,11 @@ part-put-each-end c = search needs
 put-each-requires : tie.Need-put-each-requires
 put-each-requires c κs =
     let a = c .before .before .before .before .before .before .before .before .before .before .args in
-    omega (arith, joined-length (a .separator) (a .numbers .now) (c .before .before .before .before .before .before .before .if1 .left))
+    omega (
+      arith,
+      joined-length (a .separator) (a .numbers .now)
+          (c .before .before .before .before .before .before .before .if1 .left),
+    )
 
 same-length-2 : tie.Need-same-length-2
 same-length-2 c = search needs
@@ -54,7 +59,8 @@ returns-2 c =
     let e = c .before .before in
     let n = e .before .before .before .before .before in
     let a = n .before .before .before .before .before .before .args in
-    rw (joined-some (a .separator) (a .numbers .now) (n .before .before .before .if1 .left)) (wrote-both (n .put-number .ensures) (e .put-each .ensures))
+    rw (joined-some (a .separator) (a .numbers .now) (n .before .before .before .if1 .left))
+    (wrote-both (n .put-number .ensures) (e .put-each .ensures))
 
 pub put-joined-spec : {M : Type 1} → statement M
 put-joined-spec =

@@ -45,13 +45,18 @@ array-share-prefix-route : tie.Need-array-share-prefix-route
 array-share-prefix-route c = search needs
 
 slice-aggregate-put-answer : tie.Need-slice-aggregate-put-answer
-slice-aggregate-put-answer c = sym (length-take-le (c .before .before .before .before .route-count .result) _ (omega arith))
+slice-aggregate-put-answer c = sym
+    (length-take-le (c .before .before .before .before .route-count .result) _ (omega arith))
 
 put-answer-requires : tie.Need-put-answer-requires
 put-answer-requires c κs =
     let n = c .before .before .before .before in
     let z = n .before .before in
-    omega (arith, length-take-le (n .route-count .result) (z .before .before .read2 .result ∷ z .before .read22 .result ∷ z .read23 .result ∷ []) (omega arith))
+    omega (
+      arith,
+      length-take-le (n .route-count .result)
+          (z .before .before .read2 .result ∷ z .before .read22 .result ∷ z .read23 .result ∷ []) (omega arith),
+    )
 
 same-length : tie.Need-same-length
 same-length c = search needs
@@ -64,10 +69,12 @@ returns c =
     let y = z .before in
     let x = y .before in
     let a = x .before .before .before .args in
-    let is = ride-is (a .letter) (w .wide .result) (x .read2 .result) (y .read22 .result) (z .read23 .result) (a .answer .now)
+    let is = ride-is (a .letter) (w .wide .result) (x .read2 .result) (y .read22 .result) (z .read23 .result)
+    (a .answer .now)
     (w .wide .ensures .0) (x .read2 .ensures .0) (y .read22 .ensures .0) (z .read23 .ensures .0) in
     let line = c .before .before .put-answer .ensures in
-    let few = length-take-le (n .route-count .result) (x .read2 .result ∷ y .read22 .result ∷ z .read23 .result ∷ []) (omega arith) in
+    let few = length-take-le (n .route-count .result) (x .read2 .result ∷ y .read22 .result ∷ z .read23 .result ∷ [])
+    (omega arith) in
     record {
       wrote = rw (is, ← (n .route-count .ensures)) (line .wrote);
       short = rw (is, ← (n .route-count .ensures)) (omega (arith, line .short, few));

@@ -15,14 +15,16 @@ put-scanned-requires : tie.Need-put-scanned-requires
 put-scanned-requires c κs =
     let e = c .before .before .before .before .before in
     let a = e .before .before .args in
-    let short = scanned-short (a .reply) (a .visits .now) (a .matches) (omega arith) (λ i. e .shared-slice-known .given i .fits) in
+    let short = scanned-short (a .reply) (a .visits .now) (a .matches) (omega arith)
+    (λ i. e .shared-slice-known .given i .fits) in
     omega (arith, heading-short 65 (a .reply) (omega arith), short)
 
 put-byte-requires : tie.Need-put-byte-requires
 put-byte-requires c κs =
     let e = c .before .before .before .before .before .before .before .before .before in
     let a = e .before .before .args in
-    let short = scanned-short (a .reply) (a .visits .now) (a .matches) (omega arith) (λ i. e .shared-slice-known .given i .fits) in
+    let short = scanned-short (a .reply) (a .visits .now) (a .matches) (omega arith)
+    (λ i. e .shared-slice-known .given i .fits) in
     omega (arith, heading-short 65 (a .reply) (omega arith), short)
 
 same-length : tie.Need-same-length
@@ -36,8 +38,10 @@ returns c =
     let e = h .before .before in
     let a = e .before .before .args in
     record {
-      wrote = rw (scan-is (a .reply) (a .visits .now) (a .matches)) (wrote-both (wrote-both (h .put-heading .ensures) (s .put-scanned .ensures)) (f .put-byte .ensures));
-      short = scan-short (a .reply) (a .visits .now) (a .matches) (omega arith) (omega arith) (λ i. e .shared-slice-known .given i .fits);
+      wrote = rw (scan-is (a .reply) (a .visits .now) (a .matches))
+          (wrote-both (wrote-both (h .put-heading .ensures) (s .put-scanned .ensures)) (f .put-byte .ensures));
+      short = scan-short (a .reply) (a .visits .now) (a .matches) (omega arith) (omega arith)
+          (λ i. e .shared-slice-known .given i .fits);
     }
 
 pub put-scan-spec : {M : Type 1} → statement M

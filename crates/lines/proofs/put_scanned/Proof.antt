@@ -19,7 +19,8 @@ same-length c = search needs
 returns : tie.Need-returns
 returns c =
     let a = c .before .before .before .before .before .before .before .args in
-    rw (scanned-refused (a .reply) (a .visits .now) (a .matches) (c .before .before .before .before .if1 .taken)) (c .before .before .put-byte .ensures)
+    rw (scanned-refused (a .reply) (a .visits .now) (a .matches) (c .before .before .before .before .if1 .taken))
+    (c .before .before .put-byte .ensures)
 
 put-joined-requires : tie.Need-put-joined-requires
 put-joined-requires c κs =
@@ -29,12 +30,20 @@ put-joined-requires c κs =
 put-byte-requires-2 : tie.Need-put-byte-requires-2
 put-byte-requires-2 c κs =
     let a = c .before .before .before .before .before .before .before .before .args in
-    omega (arith, scanned-length (a .reply) (a .visits .now) (a .matches) (c .before .before .before .before .before .if1 .left))
+    omega (
+      arith,
+      scanned-length (a .reply) (a .visits .now) (a .matches)
+          (c .before .before .before .before .before .if1 .left),
+    )
 
 put-number-requires : tie.Need-put-number-requires
 put-number-requires c κs =
     let a = c .before .before .before .before .before .before .before .before .before .before .before .before .args in
-    omega (arith, scanned-length (a .reply) (a .visits .now) (a .matches) (c .before .before .before .before .before .before .before .before .before .if1 .left))
+    omega (
+      arith,
+      scanned-length (a .reply) (a .visits .now) (a .matches)
+          (c .before .before .before .before .before .before .before .before .before .if1 .left),
+    )
 
 same-length-2 : tie.Need-same-length-2
 same-length-2 c = search needs

@@ -1,4 +1,5 @@
--- `lines::put_split` writes its three parts side by side; they fit since no number of four bytes has more than ten digits.
+-- `lines::put_split` writes its three parts side by side; they fit since no number of four bytes has more than ten
+-- digits.
 use native.Mathlib.Omega.{arith}
 use Rattle.lines.specs.Lines.Edit.{wrote-both}
 use Rattle.lines.specs.Lines.Laws.{heading-short, buckets-short, split-is, split-short}
@@ -14,12 +15,22 @@ put-heading-requires c κs =
 put-buckets-requires : tie.Need-put-buckets-requires
 put-buckets-requires c κs =
     let a = c .before .before .before .before .before .before .args in
-    omega (arith, heading-short 71 (a .reply) (omega arith), buckets-short (a .reply) (a .old) (a .new) (omega arith) (omega arith) (omega arith))
+    omega (
+      arith,
+      heading-short 71 (a .reply) (omega arith),
+      buckets-short (a .reply) (a .old) (a .new) (omega arith)
+          (omega arith) (omega arith),
+    )
 
 put-byte-requires : tie.Need-put-byte-requires
 put-byte-requires c κs =
     let a = c .before .before .before .before .before .before .before .before .before .before .args in
-    omega (arith, heading-short 71 (a .reply) (omega arith), buckets-short (a .reply) (a .old) (a .new) (omega arith) (omega arith) (omega arith))
+    omega (
+      arith,
+      heading-short 71 (a .reply) (omega arith),
+      buckets-short (a .reply) (a .old) (a .new) (omega arith)
+          (omega arith) (omega arith),
+    )
 
 same-length : tie.Need-same-length
 same-length c = search needs
@@ -31,7 +42,8 @@ returns c =
     let h = s .before .before .before .before in
     let a = h .before .before .before .args in
     record {
-      wrote = rw (split-is (a .reply) (a .old) (a .new)) (wrote-both (wrote-both (h .put-heading .ensures) (s .put-buckets .ensures)) (f .put-byte .ensures));
+      wrote = rw (split-is (a .reply) (a .old) (a .new))
+          (wrote-both (wrote-both (h .put-heading .ensures) (s .put-buckets .ensures)) (f .put-byte .ensures));
       short = split-short (a .reply) (a .old) (a .new) (omega arith) (omega arith) (omega arith);
     }
 

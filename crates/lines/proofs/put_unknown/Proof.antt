@@ -19,7 +19,9 @@ same-length c = search needs
 
 returns : tie.Need-returns
 returns c = record {
-  wrote = rw unknown-is (wrote-both (c .before .before .before .before .before .before .put-byte .ensures) (c .before .before .put-byte2 .ensures));
+  wrote = rw unknown-is
+      (wrote-both (c .before .before .before .before .before .before .put-byte .ensures)
+      (c .before .before .put-byte2 .ensures));
   short = omega (arith, ap length unknown-is);
 }
 

@@ -30,10 +30,12 @@ module _ (x : ℕ) where
   decimal-more h = rw (le-ltb x 10 h, enough x (suc (x / 10)) (x / 10) (omega arith) (omega arith))
 
   pub decimal-tail : 10 ≤ x → length (decimal x) ≡ suc (length (decimal (x / 10)))
-  decimal-tail h = rw (decimal-more h) (length-append (decimal (x / 10)) ((digit0 + x % 10) ∷ []) ∙ add-one (length (decimal (x / 10))))
+  decimal-tail h = rw (decimal-more h)
+      (length-append (decimal (x / 10)) ((digit0 + x % 10) ∷ []) ∙ add-one (length (decimal (x / 10))))
 
   pub decimal-some : 0 < length (decimal x)
-  decimal-some = by-cases (decLt x 10) (λ l. rw (decimal-one l) (omega arith)) (λ l. omega (arith, decimal-tail (omega arith)))
+  decimal-some = by-cases (decLt x 10) (λ l. rw (decimal-one l) (omega arith))
+      (λ l. omega (arith, decimal-tail (omega arith)))
 
 -- what holds of one digit, and of one more digit, holds of all
 module _ (P : ℕ → List ℕ → Type 0)

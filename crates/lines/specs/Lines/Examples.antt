@@ -6,7 +6,8 @@ use Prim.Native.String.{String}
 use mathlib.Core.Path.{_≡_, refl}
 use mathlib.Core.List.{List, [], _∷_}
 use Rattle.lines.specs.Bytes.{letterI, letterS}
-use Rattle.lines.specs.Lines.{decimalWithin, decimal, eachAfter, joined, unknownLine, heading, answerLine, splitRoute, splitLine, scanned, scanLine}
+use Rattle.lines.specs.Lines.{decimalWithin, decimal, eachAfter, joined, unknownLine, heading, answerLine}
+use Rattle.lines.specs.Lines.{splitRoute, splitLine, scanned, scanLine}
 
 -- The bytes of an ASCII text.
 unfoldable pub bytesOf : String → List ℕ
@@ -24,7 +25,8 @@ pub record Examples : Type 0 where
   pub unknown : unknownLine ≡ bytesOf "?\n"
 
 pub examples : Examples
-unfolding bytesOf decimalWithin decimal eachAfter joined unknownLine heading answerLine splitRoute splitLine scanned scanLine
+unfolding bytesOf decimalWithin decimal eachAfter joined unknownLine heading answerLine splitRoute splitLine scanned
+    scanLine
 examples = record {
   number = refl;
   splits = refl;

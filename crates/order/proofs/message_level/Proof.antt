@@ -15,10 +15,12 @@ returns : tie.Need-returns
 returns c = search needs
 
 sub-result : tie.Need-sub-result
-sub-result c = told-digits (c .before .before .args .image) (c .before .before .args .bucket) (omega arith) (omega arith) .0
+sub-result c = told-digits (c .before .before .args .image) (c .before .before .args .bucket) (omega arith)
+    (omega arith) .0
 
 returns-2 : tie.Need-returns-2
-returns-2 c = told-digits (c .before .before .args .image) (c .before .before .args .bucket) (omega arith) (omega arith) .1
+returns-2 c = told-digits (c .before .before .args .image) (c .before .before .args .bucket) (omega arith)
+    (omega arith) .1
 
 pub message-level-spec : {M : Type 1} → statement M
 message-level-spec =

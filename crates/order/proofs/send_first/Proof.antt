@@ -12,7 +12,8 @@ use Rattle.order.proofs.send_first.Statement.{statement}
 use Rattle.order.proofs.send_first.Tie as tie
 
 abbrev Inv-loop : tie.InvT-loop
-Inv-loop count queue₀ k₀ queue k = (k ≤ count) × (length queue ≡ length queue₀) × (take k queue ++ numbers k (count - k) ≡ numbers 0 count)
+Inv-loop count queue₀ k₀ queue k = (k ≤ count) × (length queue ≡ length queue₀)
+    × (take k queue ++ numbers k (count - k) ≡ numbers 0 count)
 
 abbrev μ-loop : tie.MeasureT-loop
 μ-loop count queue₀ k₀ queue k = count - k
@@ -41,7 +42,8 @@ loop-again c =
     let l = c .before .loop in (
       omega arith,
       length-set (l .queue) (l .k) (l .k) ∙ l .inv .1,
-      filled-more (l .queue) (l .k) (numbers (l .k) (a .count - l .k)) (numbers 0 (a .count)) (l .inv .2) (l .k) (numbers (l .k + 1) (a .count - (l .k + 1)))
+      filled-more (l .queue) (l .k) (numbers (l .k) (a .count - l .k)) (numbers 0 (a .count)) (l .inv .2) (l .k)
+          (numbers (l .k + 1) (a .count - (l .k + 1)))
           (omega arith) (numbers-cons (l .k) (a .count) (c .loop-test .taken)),
     )
 
@@ -54,7 +56,8 @@ returns c =
     let l = c .before .loop in
     let all : l .k ≡ a .count = omega arith in
     ap (λ (n : ℕ). take n (l .queue)) (sym all)
-    ∙ filled-done (l .queue) (l .k) (numbers (l .k) (a .count - l .k)) (numbers 0 (a .count)) (l .inv .2) (numbers-none (l .k) (a .count - l .k) (omega arith))
+    ∙ filled-done (l .queue) (l .k) (numbers (l .k) (a .count - l .k)) (numbers 0 (a .count)) (l .inv .2)
+    (numbers-none (l .k) (a .count - l .k) (omega arith))
 
 pub send-first-spec : {M : Type 1} → statement M
 send-first-spec =

@@ -13,7 +13,10 @@ use Rattle.order.proofs.send_on.Statement.{statement}
 use Rattle.order.proofs.send_on.Tie as tie
 
 abbrev Inv-loop : tie.InvT-loop
-Inv-loop bucket told own tail queue₀ level₀ end₀ queue level end = (told ≤ level) × (end + (own - level) ≡ tail + (own - told)) × (length queue ≡ length queue₀) × (take end queue ++ born firstBuckets bucket level (own - level) ≡ take tail queue₀ ++ born firstBuckets bucket told (own - told))
+Inv-loop bucket told own tail queue₀ level₀ end₀ queue level end = (told ≤ level)
+    × (end + (own - level) ≡ tail + (own - told)) × (length queue ≡ length queue₀)
+    × (take end queue ++ born firstBuckets bucket level (own - level)
+    ≡ take tail queue₀ ++ born firstBuckets bucket told (own - told))
 
 abbrev μ-loop : tie.MeasureT-loop
 μ-loop bucket told own tail queue₀ level₀ end₀ queue level end = own - level
@@ -24,13 +27,25 @@ loop-holds c = search needs
 child-requires : tie.Need-child-requires Inv-loop μ-loop
 child-requires c κs =
     let a = c .before .before .before .args in
-    let l = c .before .loop in
-    (search needs, omega (arith, child-is firstBuckets (a .bucket) (l .level), c .before .before .before .pre .2 (l .level) (l .inv .0) (c .loop-test .taken)))
+    let l = c .before .loop in (
+      search needs,
+      omega (
+        arith,
+        child-is firstBuckets (a .bucket) (l .level),
+        c .before .before .before .pre .2 (l .level) (l .inv .0)
+            (c .loop-test .taken),
+      ),
+    )
 
 cast-queue : tie.Need-cast-queue Inv-loop μ-loop
 cast-queue c =
     let l = c .before .before .loop in
-    omega (arith, c .child .ensures, c .before .before .before .before .pre .2 (l .level) (l .inv .0) (c .before .loop-test .taken))
+    omega (
+      arith,
+      c .child .ensures,
+      c .before .before .before .before .pre .2 (l .level) (l .inv .0)
+          (c .before .loop-test .taken),
+    )
 
 mul-queue : tie.Need-mul-queue Inv-loop μ-loop
 mul-queue c = search needs
@@ -54,8 +69,13 @@ loop-again c =
       omega arith,
       omega arith,
       length-set (l .queue) (l .end) (c .child .result) ∙ l .inv .2,
-      filled-more (l .queue) (l .end) (born firstBuckets (a .bucket) (l .level) (a .own - l .level)) (take (a .tail) (a .queue .now) ++ born firstBuckets (a .bucket) (a .told) (a .own - a .told)) (l .inv .3) (c .child .result) (born firstBuckets (a .bucket) (l .level + 1) (a .own - (l .level + 1)))
-          (omega arith) (born-cons firstBuckets (a .bucket) (l .level) (a .own) (c .before .loop-test .taken) ∙ ap (λ (b : ℕ). b ∷ born firstBuckets (a .bucket) (l .level + 1) (a .own - (l .level + 1))) (sym (c .child .ensures))),
+      filled-more (l .queue) (l .end) (born firstBuckets (a .bucket) (l .level) (a .own - l .level))
+          (take (a .tail) (a .queue .now) ++ born firstBuckets (a .bucket) (a .told) (a .own - a .told)) (l .inv .3)
+          (c .child .result) (born firstBuckets (a .bucket) (l .level + 1) (a .own - (l .level + 1)))
+          (omega arith)
+          (born-cons firstBuckets (a .bucket) (l .level) (a .own) (c .before .loop-test .taken)
+          ∙ ap (λ (b : ℕ). b ∷ born firstBuckets (a .bucket) (l .level + 1) (a .own - (l .level + 1)))
+          (sym (c .child .ensures))),
     )
 
 same-length : tie.Need-same-length Inv-loop μ-loop
@@ -66,7 +86,9 @@ returns c =
     let a = c .before .before .before .args in
     let l = c .before .loop in (
       omega arith,
-      filled-done (l .queue) (l .end) (born firstBuckets (a .bucket) (l .level) (a .own - l .level)) (take (a .tail) (a .queue .now) ++ born firstBuckets (a .bucket) (a .told) (a .own - a .told)) (l .inv .3) (born-none firstBuckets (a .bucket) (l .level) (a .own - l .level) (omega arith)),
+      filled-done (l .queue) (l .end) (born firstBuckets (a .bucket) (l .level) (a .own - l .level))
+          (take (a .tail) (a .queue .now) ++ born firstBuckets (a .bucket) (a .told) (a .own - a .told)) (l .inv .3)
+          (born-none firstBuckets (a .bucket) (l .level) (a .own - l .level) (omega arith)),
     )
 
 pub send-on-spec : {M : Type 1} → statement M

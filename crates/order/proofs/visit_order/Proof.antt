@@ -1,5 +1,5 @@
--- `order::visit_order`: the list holds all messages sent so far, of which the first ones are handled; each turn handles one and writes what it sends.
--- Once all buckets have had their turn, the list is the visits.
+-- `order::visit_order`: the list holds all messages sent so far, of which the first ones are handled; each turn handles
+-- one and writes what it sends. Once all buckets have had their turn, the list is the visits.
 use borrow.Author.Needs.{needs}
 use Prim.Native.Nat.{ℕ, _-_, _≤_}
 use mathlib.Core.Path.{_≡_, refl, sym, ap, _∙_}
@@ -12,7 +12,8 @@ use Rattle.order.proofs.visit_order.Statement.{statement}
 use Rattle.order.proofs.visit_order.Tie as tie
 
 abbrev Inv-loop : tie.InvT-loop
-Inv-loop state image queue₀ count tail₀ handled₀ queue tail handled = (handled ≤ count) × (length queue ≡ length queue₀) × Visiting state image queue tail handled
+Inv-loop state image queue₀ count tail₀ handled₀ queue tail handled = (handled ≤ count) × (length queue ≡ length queue₀)
+    × Visiting state image queue tail handled
 
 abbrev μ-loop : tie.MeasureT-loop
 μ-loop state image queue₀ count tail₀ handled₀ queue tail handled = count - handled
@@ -35,8 +36,13 @@ send-first-requires c κs = search needs
 loop-holds : tie.Need-loop-holds Inv-loop μ-loop
 loop-holds c =
     let p = c .before .before .before .before .before .before .before .pre in
-    let a = c .before .before .before .before .before .before .before .args in
-    (omega arith, refl, visiting-start (a .state) (a .image) (p .0) _ (c .before .before .before .before .buckets2 .result) (c .before .before .before .before .buckets2 .ensures) (c .before .before .send-first .ensures) (omega (arith, c .before .before .send-first .kept)))
+    let a = c .before .before .before .before .before .before .before .args in (
+      omega arith,
+      refl,
+      visiting-start (a .state) (a .image) (p .0) _
+          (c .before .before .before .before .buckets2 .result) (c .before .before .before .before .buckets2 .ensures)
+          (c .before .before .send-first .ensures) (omega (arith, c .before .before .send-first .kept)),
+    )
 
 mul-bucket : tie.Need-mul-bucket Inv-loop μ-loop
 mul-bucket c = search needs
@@ -55,10 +61,20 @@ level-of-requires c κs = search needs
 
 send-on-requires : tie.Need-send-on-requires Inv-loop μ-loop
 send-on-requires c κs =
-    let p = c .before .before .before .before .before .before .before .before .before .before .before .before .before .pre in
-    let a = c .before .before .before .before .before .before .before .before .before .before .before .before .before .args in
+    let p =
+    c .before .before .before .before .before .before .before .before .before .before .before .before .before .pre
+    in
+    let a =
+    c .before .before .before .before .before .before .before .before .before .before .before .before .before .args
+    in
     let l = c .before .before .before .before .before .loop in
-    let t = visiting-turn (a .state) (a .image) (p .0) (l .queue) (l .tail) (l .handled) (l .inv .2) (omega (arith, c .before .before .before .before .before .before .before .before .before .before .before .buckets .ensures)) (getD (l .queue) (l .handled) 0) (c .before .before .message-level .result) (c .before .level-of .result) refl (c .before .before .message-level .ensures) (c .before .level-of .ensures) in
+    let t = visiting-turn (a .state) (a .image) (p .0) (l .queue) (l .tail) (l .handled) (l .inv .2)
+    (omega (
+      arith,
+      c .before .before .before .before .before .before .before .before .before .before .before .buckets .ensures,
+    ))
+    (getD (l .queue) (l .handled) 0) (c .before .before .message-level .result) (c .before .level-of .result) refl
+    (c .before .before .message-level .ensures) (c .before .level-of .ensures) in
     (t .low, omega (arith, t .fits, l .inv .2 .room), λ k low high. omega (arith, t .children k low high, p .0 .few))
 
 add-handled : tie.Need-add-handled Inv-loop μ-loop
@@ -72,8 +88,13 @@ loop-again c =
     let p = c .before .before .before .before .before .before .before .before .before .before .before .before .before .before .before .before .pre in
     let a = c .before .before .before .before .before .before .before .before .before .before .before .before .before .before .before .before .args in
     let l = c .before .before .before .before .before .before .before .before .loop in
-    let t = visiting-turn (a .state) (a .image) (p .0) (l .queue) (l .tail) (l .handled) (l .inv .2) (omega (arith, c .before .before .before .before .before .before .before .before .before .before .before .before .before .before .buckets .ensures)) (getD (l .queue) (l .handled) 0) (c .before .before .before .before .before .message-level .result) (c .before .before .before .before .level-of .result) refl (c .before .before .before .before .before .message-level .ensures) (c .before .before .before .before .level-of .ensures) in
-    (omega arith, omega (arith, c .before .before .send-on .kept), t .next _ (c .before .before .send-on .result) (c .before .before .send-on .ensures .0) (c .before .before .send-on .ensures .1) (omega (arith, c .before .before .send-on .kept)))
+    let t = visiting-turn (a .state) (a .image) (p .0) (l .queue) (l .tail) (l .handled) (l .inv .2) (omega (arith, c .before .before .before .before .before .before .before .before .before .before .before .before .before .before .buckets .ensures)) (getD (l .queue) (l .handled) 0) (c .before .before .before .before .before .message-level .result) (c .before .before .before .before .level-of .result) refl (c .before .before .before .before .before .message-level .ensures) (c .before .before .before .before .level-of .ensures) in (
+      omega arith,
+      omega (arith, c .before .before .send-on .kept),
+      t .next _ (c .before .before .send-on .result)
+          (c .before .before .send-on .ensures .0) (c .before .before .send-on .ensures .1)
+          (omega (arith, c .before .before .send-on .kept)),
+    )
 
 same-length : tie.Need-same-length Inv-loop μ-loop
 same-length c = search needs
@@ -83,8 +104,10 @@ returns c =
     let p = c .before .before .before .before .before .before .before .before .before .pre in
     let a = c .before .before .before .before .before .before .before .before .before .args in
     let l = c .before .loop in
-    let all : l .handled ≡ buckets firstBuckets (a .state) = omega (arith, c .before .before .before .before .before .before .before .buckets .ensures) in
-    ap (λ (n : ℕ). take n (l .queue)) (sym all) ∙ visiting-done (a .state) (a .image) (p .0) (l .queue) (l .tail) (l .handled) (l .inv .2) all
+    let all : l .handled ≡ buckets firstBuckets (a .state) = omega
+    (arith, c .before .before .before .before .before .before .before .buckets .ensures) in
+    ap (λ (n : ℕ). take n (l .queue)) (sym all)
+    ∙ visiting-done (a .state) (a .image) (p .0) (l .queue) (l .tail) (l .handled) (l .inv .2) all
 
 pub visit-order-spec : {M : Type 1} → statement M
 visit-order-spec =

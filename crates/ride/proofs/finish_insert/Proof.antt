@@ -23,7 +23,8 @@ adjust-requires c κs =
     let b = c .before .before .before .before .before .before .before .before .before .before .before in
     let a = b .args in
     let r = b .pre .1 in
-    let y = arrived (a .file .now) (a .table .now) (a .client) (a .key) (a .opened .header) (a .opened .image) (a .end .walk) (a .end .bucket) (a .end .place) r in
+    let y = arrived (a .file .now) (a .table .now) (a .client) (a .key) (a .opened .header) (a .opened .image)
+    (a .end .walk) (a .end .bucket) (a .end .place) r in
     (r .opened .there, r .opened .known .room, y .first, omega (arith, y .low), omega (arith, y .near))
 
 put-block-requires : tie.Need-put-block-requires
@@ -44,9 +45,15 @@ returns c =
     let a = b .args in
     let r = b .pre .1 in
     let n = c .before .before .before .before .before .before .before .before .before .before .before .held-in in
-    let y = arrived (a .file .now) (a .table .now) (a .client) (a .key) (a .opened .header) (a .opened .image) (a .end .walk) (a .end .bucket) (a .end .place) r in
-    insert-held (a .file .now) (a .table .now) (a .client) (a .key) (noted (a .end .walk)) (c .before .before .put-block .last .0) (c .before .before .before .before .before .before .before .adjust .last .0) (y .way) (y .written (c .before .before .before .before .before .before .before .adjust .last .0) (c .before .before .before .before .before .before .before .adjust .ensures)) (a .payload .now)
-    (sym (held-is (a .file .now) (a .key) (a .end .bucket) (y .own) (a .end .place) (n .result) (r .slot) (n .ensures .0)) ∙ c .before .before .before .before .if1 .taken) (c .before .before .put-block .ensures)
+    let y = arrived (a .file .now) (a .table .now) (a .client) (a .key) (a .opened .header) (a .opened .image)
+    (a .end .walk) (a .end .bucket) (a .end .place) r in
+    insert-held (a .file .now) (a .table .now) (a .client) (a .key) (noted (a .end .walk))
+    (c .before .before .put-block .last .0)
+    (c .before .before .before .before .before .before .before .adjust .last .0) (y .way)
+    (y .written (c .before .before .before .before .before .before .before .adjust .last .0)
+    (c .before .before .before .before .before .before .before .adjust .ensures)) (a .payload .now)
+    (sym (held-is (a .file .now) (a .key) (a .end .bucket) (y .own) (a .end .place) (n .result) (r .slot)
+    (n .ensures .0)) ∙ c .before .before .before .before .if1 .taken) (c .before .before .put-block .ensures)
 
 put-block-requires-2 : tie.Need-put-block-requires-2
 put-block-requires-2 c κs = search needs
@@ -65,18 +72,35 @@ returns-2 c =
     let b = c .before .before .before .before .before .before .before .before .before .before .before .before .before .before .before .before .before .before .before .before in
     let a = b .args in
     let r = b .pre .1 in
-    let n = c .before .before .before .before .before .before .before .before .before .before .before .before .held-in in
-    let y = arrived (a .file .now) (a .table .now) (a .client) (a .key) (a .opened .header) (a .opened .image) (a .end .walk) (a .end .bucket) (a .end .place) r in
-    insert-full (a .file .now) (a .table .now) (a .client) (a .key) (noted (a .end .walk)) (c .before .before .put-block2 .last .0) (c .before .before .before .before .before .before .before .before .adjust .last .0) (y .way) (y .written (c .before .before .before .before .before .before .before .before .adjust .last .0) (c .before .before .before .before .before .before .before .before .adjust .ensures)) (a .payload .now)
-    (sym (held-is (a .file .now) (a .key) (a .end .bucket) (y .own) (a .end .place) (n .result) (r .slot) (n .ensures .0)) ∙ c .before .before .before .before .before .if1 .left) (sym (full-is (a .file .now) (a .key) (a .end .bucket) (y .own) (a .opened .header .slots) (n .result) (r .opened .known .slots) (n .ensures .0)) ∙ c .before .before .before .before .if2 .taken) (c .before .before .put-block2 .ensures)
+    let n = c .before .before .before .before .before .before .before .before .before .before .before .before .held-in
+    in
+    let y = arrived (a .file .now) (a .table .now) (a .client) (a .key) (a .opened .header) (a .opened .image)
+    (a .end .walk) (a .end .bucket) (a .end .place) r in
+    insert-full (a .file .now) (a .table .now) (a .client) (a .key) (noted (a .end .walk))
+    (c .before .before .put-block2 .last .0)
+    (c .before .before .before .before .before .before .before .before .adjust .last .0) (y .way)
+    (y .written (c .before .before .before .before .before .before .before .before .adjust .last .0)
+    (c .before .before .before .before .before .before .before .before .adjust .ensures)) (a .payload .now)
+    (sym (held-is (a .file .now) (a .key) (a .end .bucket) (y .own) (a .end .place) (n .result) (r .slot)
+    (n .ensures .0)) ∙ c .before .before .before .before .before .if1 .left)
+    (sym (full-is (a .file .now) (a .key) (a .end .bucket) (y .own) (a .opened .header .slots) (n .result)
+    (r .opened .known .slots) (n .ensures .0)) ∙ c .before .before .before .before .if2 .taken)
+    (c .before .before .put-block2 .ensures)
 
 place-ride-requires : tie.Need-place-ride-requires
 place-ride-requires c κs =
     let b = c .before .before .before .before .before .before .before .before .before .before .before .before .before .before .before .before .before in
     let a = b .args in
     let r = b .pre .1 in
-    let n = c .before .before .before .before .before .before .before .before .before .held-in in
-    (r .opened .known, r .ended .there, r .ended .good refl, n .ensures .0, leb-false (a .opened .header .slots) (n .result) (c .before .if2 .left), b .pre .2)
+    let n = c .before .before .before .before .before .before .before .before .before .held-in in (
+      r .opened .known,
+      r .ended .there,
+      r .ended .good refl,
+      n .ensures .0,
+      leb-false (a .opened .header .slots)
+          (n .result) (c .before .if2 .left),
+      b .pre .2,
+    )
 
 over-capacity-requires : tie.Need-over-capacity-requires
 over-capacity-requires c κs = search needs
@@ -99,13 +123,21 @@ returns-3 c =
     let a = b .args in
     let r = b .pre .1 in
     let n = c .before .before .before .before .before .before .before .before .before .before .before .before .before .before .before .before .before .held-in in
-    let y = arrived (a .file .now) (a .table .now) (a .client) (a .key) (a .opened .header) (a .opened .image) (a .end .walk) (a .end .bucket) (a .end .place) r in
+    let y = arrived (a .file .now) (a .table .now) (a .client) (a .key) (a .opened .header) (a .opened .image)
+    (a .end .walk) (a .end .bucket) (a .end .place) r in
     let p = c .before .before .before .before .before .before .before .place-ride in
     let o = c .before .before .before .over-capacity in
     insert-done (a .file .now) (a .table .now) (a .client) (a .key) (noted (a .end .walk)) (c .before .before .put-block3 .last .0) (c .before .before .before .before .before .before .before .before .before .before .before .before .before .adjust .last .0) (y .way) (y .written (c .before .before .before .before .before .before .before .before .before .before .before .before .before .adjust .last .0) (c .before .before .before .before .before .before .before .before .before .before .before .before .before .adjust .ensures)) (a .payload .now)
-    (sym (held-is (a .file .now) (a .key) (a .end .bucket) (y .own) (a .end .place) (n .result) (r .slot) (n .ensures .0)) ∙ c .before .before .before .before .before .before .before .before .before .before .if1 .left) (sym (full-is (a .file .now) (a .key) (a .end .bucket) (y .own) (a .opened .header .slots) (n .result) (r .opened .known .slots) (n .ensures .0)) ∙ c .before .before .before .before .before .before .before .before .before .if2 .left)
-    (o .result) (o .ensures ∙ over-is (a .file .now) (a .key) (a .end .bucket) (y .own) (a .opened .header .capacity) (p .result) (n .result) (r .opened .known .capacity) (p .ensures .0) (n .ensures .0))
-    (c .before .before .put-block3 .ensures) (p .last .0) (inserted-is (a .file .now) (a .key) (a .end .bucket) (y .own) (a .payload .now) (p .last .0) (p .ensures .1))
+    (sym (held-is (a .file .now) (a .key) (a .end .bucket) (y .own) (a .end .place) (n .result) (r .slot)
+    (n .ensures .0)) ∙ c .before .before .before .before .before .before .before .before .before .before .if1 .left)
+    (sym (full-is (a .file .now) (a .key) (a .end .bucket) (y .own) (a .opened .header .slots) (n .result)
+    (r .opened .known .slots) (n .ensures .0))
+    ∙ c .before .before .before .before .before .before .before .before .before .if2 .left)
+    (o .result)
+    (o .ensures ∙ over-is (a .file .now) (a .key) (a .end .bucket) (y .own) (a .opened .header .capacity)
+    (p .result) (n .result) (r .opened .known .capacity) (p .ensures .0) (n .ensures .0))
+    (c .before .before .put-block3 .ensures) (p .last .0)
+    (inserted-is (a .file .now) (a .key) (a .end .bucket) (y .own) (a .payload .now) (p .last .0) (p .ensures .1))
 
 pub finish-insert-spec : {M : Type 1} → statement M
 finish-insert-spec =

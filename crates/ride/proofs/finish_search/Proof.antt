@@ -26,7 +26,8 @@ adjust-requires c κs =
     let b = c .before .before .before .before .before .before .before in
     let a = b .args in
     let r = b .pre .1 in
-    let y = arrived (a .file .now) (a .table .now) (a .client) (a .key) (a .opened .header) (a .opened .image) (a .end .walk) (a .end .bucket) (a .end .place) r in
+    let y = arrived (a .file .now) (a .table .now) (a .client) (a .key) (a .opened .header) (a .opened .image)
+    (a .end .walk) (a .end .bucket) (a .end .place) r in
     (r .opened .there, r .opened .known .room, y .first, omega (arith, y .low), omega (arith, y .near))
 
 put-block-requires : tie.Need-put-block-requires
@@ -59,9 +60,16 @@ part-put-end c =
     let a = b .args in
     let r = b .pre .1 in
     let n = c .before .before .before .before .before .before .before .before .before .before .before .before .before .held-in in
-    let low : a .end .place < slotsOf (a .file .now) = omega (arith, n .ensures .0, sound-few (a .file .now) (a .end .bucket) (r .ended .good refl), c .before .before .before .before .before .before .before .if1 .taken) in
+    let low : a .end .place < slotsOf (a .file .now) = omega (
+      arith,
+      n .ensures .0,
+      sound-few (a .file .now) (a .end .bucket) (r .ended .good refl),
+      c .before .before .before .before .before .before .before .if1 .taken,
+    ) in
     let s = c .before .before .start in
-    payload-cut (a .file .now) (a .opened .header) (r .opened .known) (a .end .bucket) (s .result) (a .end .place) (s .result + (18 + 24 * a .end .place)) (omega (arith, r .ended .there, r .opened .known .ranges .few)) (s .ensures .0) low refl .1
+    payload-cut (a .file .now) (a .opened .header) (r .opened .known) (a .end .bucket) (s .result) (a .end .place)
+    (s .result + (18 + 24 * a .end .place)) (omega (arith, r .ended .there, r .opened .known .ranges .few))
+    (s .ensures .0) low refl .1
 
 put-requires : tie.Need-put-requires
 put-requires c κs = search needs
@@ -78,15 +86,28 @@ returns c =
     let a = b .args in
     let r = b .pre .1 in
     let n = c .before .before .before .before .before .before .before .before .before .before .before .before .before .before .before .before .before .held-in in
-    let low : a .end .place < slotsOf (a .file .now) = omega (arith, n .ensures .0, sound-few (a .file .now) (a .end .bucket) (r .ended .good refl), c .before .before .before .before .before .before .before .before .before .before .before .if1 .taken) in
+    let low : a .end .place < slotsOf (a .file .now) = omega (
+      arith,
+      n .ensures .0,
+      sound-few (a .file .now) (a .end .bucket) (r .ended .good refl),
+      c .before .before .before .before .before .before .before .before .before .before .before .if1 .taken,
+    ) in
     let s = c .before .before .before .before .before .before .start in
-    let y = arrived (a .file .now) (a .table .now) (a .client) (a .key) (a .opened .header) (a .opened .image) (a .end .walk) (a .end .bucket) (a .end .place) r in
-    let cut = payload-cut (a .file .now) (a .opened .header) (r .opened .known) (a .end .bucket) (s .result) (a .end .place) (s .result + (18 + 24 * a .end .place)) (omega (arith, r .ended .there, r .opened .known .ranges .few)) (s .ensures .0) low refl in
+    let y = arrived (a .file .now) (a .table .now) (a .client) (a .key) (a .opened .header) (a .opened .image)
+    (a .end .walk) (a .end .bucket) (a .end .place) r in
+    let cut = payload-cut (a .file .now) (a .opened .header) (r .opened .known) (a .end .bucket) (s .result)
+    (a .end .place) (s .result + (18 + 24 * a .end .place))
+    (omega (arith, r .ended .there, r .opened .known .ranges .few)) (s .ensures .0) low refl in
     search-found (a .file .now) (a .table .now) (a .client) (a .key) (noted (a .end .walk)) (c .before .before .put .last .0) (c .before .before .before .before .before .before .before .before .before .before .before .before .before .before .before .adjust .last .0) (y .way) (y .written (c .before .before .before .before .before .before .before .before .before .before .before .before .before .before .before .adjust .last .0) (c .before .before .before .before .before .before .before .before .before .before .before .before .before .before .before .adjust .ensures))
-    (sym (held-is (a .file .now) (a .key) (a .end .bucket) (y .own) (a .end .place) (n .result) (r .slot) (n .ensures .0)) ∙ lt-ltb _ _ (c .before .before .before .before .before .before .before .before .before .before .before .if1 .taken)) _
+    (sym (held-is (a .file .now) (a .key) (a .end .bucket) (y .own) (a .end .place) (n .result) (r .slot)
+    (n .ensures .0)) ∙ lt-ltb _ _
+    (c .before .before .before .before .before .before .before .before .before .before .before .if1 .taken)) _
     (cut .0 ∙ ap (λ (k : ℕ). rideAt (regionOf (a .file .now) (a .end .bucket)) k .payload) (r .slot)
-    ∙ ap (λ (x : ℕ). rideAt (regionOf (a .file .now) x) (slotOf (regionOf (a .file .now) x) (a .key)) .payload) (y .own))
-    (c .before .before .put .ensures ∙ ap (edit 10 _) (c .before .before .before .before .before .before .before .before .before .put-block .ensures) ∙ block-payload 0 0 (noted (a .end .walk)) _ (cut .2))
+    ∙ ap (λ (x : ℕ). rideAt (regionOf (a .file .now) x) (slotOf (regionOf (a .file .now) x) (a .key)) .payload)
+    (y .own))
+    (c .before .before .put .ensures
+    ∙ ap (edit 10 _) (c .before .before .before .before .before .before .before .before .before .put-block .ensures)
+    ∙ block-payload 0 0 (noted (a .end .walk)) _ (cut .2))
 
 put-block-requires-2 : tie.Need-put-block-requires-2
 put-block-requires-2 c κs = search needs
@@ -103,9 +124,16 @@ returns-2 c =
     let a = b .args in
     let r = b .pre .1 in
     let n = c .before .before .before .before .before .before .before .before .before .before .held-in in
-    let y = arrived (a .file .now) (a .table .now) (a .client) (a .key) (a .opened .header) (a .opened .image) (a .end .walk) (a .end .bucket) (a .end .place) r in
-    search-absent (a .file .now) (a .table .now) (a .client) (a .key) (noted (a .end .walk)) (c .before .before .put-block2 .last .0) (c .before .before .before .before .before .before .before .before .adjust .last .0) (y .way) (y .written (c .before .before .before .before .before .before .before .before .adjust .last .0) (c .before .before .before .before .before .before .before .before .adjust .ensures))
-    (sym (held-is (a .file .now) (a .key) (a .end .bucket) (y .own) (a .end .place) (n .result) (r .slot) (n .ensures .0)) ∙ le-ltb _ _ (c .before .before .before .before .if1 .left)) (c .before .before .put-block2 .ensures)
+    let y = arrived (a .file .now) (a .table .now) (a .client) (a .key) (a .opened .header) (a .opened .image)
+    (a .end .walk) (a .end .bucket) (a .end .place) r in
+    search-absent (a .file .now) (a .table .now) (a .client) (a .key) (noted (a .end .walk))
+    (c .before .before .put-block2 .last .0)
+    (c .before .before .before .before .before .before .before .before .adjust .last .0) (y .way)
+    (y .written (c .before .before .before .before .before .before .before .before .adjust .last .0)
+    (c .before .before .before .before .before .before .before .before .adjust .ensures))
+    (sym (held-is (a .file .now) (a .key) (a .end .bucket) (y .own) (a .end .place) (n .result) (r .slot)
+    (n .ensures .0)) ∙ le-ltb _ _ (c .before .before .before .before .if1 .left))
+    (c .before .before .put-block2 .ensures)
 
 pub finish-search-spec : {M : Type 1} → statement M
 finish-search-spec =

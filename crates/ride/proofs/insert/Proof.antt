@@ -6,8 +6,9 @@ use lib.Dec.{eqb}
 use lib.ListN.{length}
 use Rattle.layout.specs.Bytes.Tests.{and-left, and-right}
 use Rattle.address.specs.declared.Image.{Image}
+use Rattle.bucket.specs.Region.{every}
 use Rattle.file.specs.File.{bucketSoundIn}
-use Rattle.route.specs.Way.{noted, wayOf, everyOn, cut}
+use Rattle.route.specs.Way.{noted, wayOf, cut}
 use Rattle.route.specs.Way.Route.{Walked}
 use Rattle.ride.specs.Call.{placed}
 use Rattle.ride.specs.Call.Replied.{insert-is, routed-block, routed-early, routed-stopped, routed-reached}
@@ -18,13 +19,17 @@ use Rattle.ride.proofs.insert.Tie as tie
 returns : tie.Need-returns
 returns c =
     let a = c .before .before .before .before .before .args in
-    routed-block (a .file .now) (a .table .now) (a .client) (a .key) (a .answer .now) (placed (a .file .now) (a .table .now) (a .client) (a .key) (a .payload .now)) ∙ insert-is (a .file .now) (a .table .now) (a .client) (a .key) (a .payload .now) (a .answer .now) false (not-true _ (c .if1 .taken))
+    routed-block (a .file .now) (a .table .now) (a .client) (a .key) (a .answer .now)
+    (placed (a .file .now) (a .table .now) (a .client) (a .key) (a .payload .now))
+    ∙ insert-is (a .file .now) (a .table .now) (a .client) (a .key) (a .payload .now) (a .answer .now) false
+    (not-true _ (c .if1 .taken))
 
 open-requires : tie.Need-open-requires
 open-requires c κs = search needs
 
 put-refusal-requires : tie.Need-put-refusal-requires
-put-refusal-requires c κs = eqb-true _ 24 (and-left _ _ (not-false _ (c .before .before .before .before .before .if1 .left)))
+put-refusal-requires c κs = eqb-true _ 24
+    (and-left _ _ (not-false _ (c .before .before .before .before .before .if1 .left)))
 
 same-length : tie.Need-same-length
 same-length c = search needs
@@ -37,11 +42,22 @@ same-length-3 c = search needs
 
 returns-2 : tie.Need-returns-2
 returns-2 c =
-    let a = c .before .before .before .before .before .before .before .before .before .before .before .before .before .args in
+    let a =
+    c .before .before .before .before .before .before .before .before .before .before .before .before .before .args
+    in
     let o = c .before .before .before .before .before .«open» in
-    (λ i. record { answer = o .result .reply; block = c .before .before .put-refusal .ensures i; table = a .table .now; file = a .file .now })
-    ∙ routed-early (a .file .now) (a .table .now) (a .client) (a .key) (a .answer .now) (placed (a .file .now) (a .table .now) (a .client) (a .key) (a .payload .now)) (o .result .reply) (o .ensures .0) (c .before .before .before .before .if2 .taken)
-    ∙ insert-is (a .file .now) (a .table .now) (a .client) (a .key) (a .payload .now) (a .answer .now) true (not-false _ (c .before .before .before .before .before .before .before .before .if1 .left))
+    (λ i.
+    record {
+      answer = o .result .reply;
+      block = c .before .before .put-refusal .ensures i;
+      table = a .table .now;
+      file = a .file .now;
+    })
+    ∙ routed-early (a .file .now) (a .table .now) (a .client) (a .key) (a .answer .now)
+    (placed (a .file .now) (a .table .now) (a .client) (a .key) (a .payload .now)) (o .result .reply)
+    (o .ensures .0) (c .before .before .before .before .if2 .taken)
+    ∙ insert-is (a .file .now) (a .table .now) (a .client) (a .key) (a .payload .now) (a .answer .now) true
+    (not-false _ (c .before .before .before .before .before .before .before .before .if1 .left))
 
 walk-route-requires : tie.Need-walk-route-requires
 walk-route-requires c κs =
@@ -49,7 +65,11 @@ walk-route-requires c κs =
     (g .known, g .low, g .formed, g .behind)
 
 put-block-requires : tie.Need-put-block-requires
-put-block-requires c κs = (eqb-true _ 24 (and-left _ _ (not-false _ (c .before .before .before .before .before .before .before .before .before .if1 .left))), c .before .before .before .walk-route .ensures .0 .few)
+put-block-requires c κs = (
+  eqb-true _ 24
+      (and-left _ _ (not-false _ (c .before .before .before .before .before .before .before .before .before .if1 .left))),
+  c .before .before .before .walk-route .ensures .0 .few,
+)
 
 same-length-4 : tie.Need-same-length-4
 same-length-4 c = search needs
@@ -66,11 +86,26 @@ returns-3 c =
     let o = c .before .before .before .before .before .before .before .before .before .«open» in
     let g = o .ensures .1 (c .before .before .before .before .before .before .before .before .if2 .left) in
     let w = c .before .before .before .before .before .before .walk-route in
-    (λ i. record { answer = 7; block = c .before .before .put-block .ensures i; table = a .table .now; file = a .file .now })
-    ∙ routed-stopped (a .file .now) (a .table .now) (a .client) (a .key) (a .answer .now) (placed (a .file .now) (a .table .now) (a .client) (a .key) (a .payload .now)) (sym (o .ensures .0) ∙ c .before .before .before .before .before .before .before .before .if2 .left) (noted (w .result .walk))
-    (w .ensures .0 .met ∙ ap (λ (x : Image). cut (bucketSoundIn (a .file .now)) (wayOf (a .file .now) x (a .key))) (g .is))
-    (sym (c .before .before .before .before .before .before .walk-route .ensures .0 .sound ∙ ap (λ (x : Image). everyOn (bucketSoundIn (a .file .now)) (wayOf (a .file .now) x (a .key))) (g .is)) ∙ not-true _ (c .before .before .before .before .if3 .taken))
-    ∙ insert-is (a .file .now) (a .table .now) (a .client) (a .key) (a .payload .now) (a .answer .now) true (not-false _ (c .before .before .before .before .before .before .before .before .before .before .before .before .if1 .left))
+    (λ i.
+    record {
+      answer = 7;
+      block = c .before .before .put-block .ensures i;
+      table = a .table .now;
+      file =
+          a .file .now;
+    })
+    ∙ routed-stopped (a .file .now) (a .table .now) (a .client) (a .key) (a .answer .now)
+    (placed (a .file .now) (a .table .now) (a .client) (a .key) (a .payload .now))
+    (sym (o .ensures .0) ∙ c .before .before .before .before .before .before .before .before .if2 .left)
+    (noted (w .result .walk))
+    (w .ensures .0 .met ∙ ap (λ (x : Image). cut (bucketSoundIn (a .file .now)) (wayOf (a .file .now) x (a .key)))
+    (g .is))
+    (sym (c .before .before .before .before .before .before .walk-route .ensures .0 .sound
+    ∙ ap (λ (x : Image). every (bucketSoundIn (a .file .now)) (wayOf (a .file .now) x (a .key))) (g .is))
+    ∙ not-true _ (c .before .before .before .before .if3 .taken))
+    ∙ insert-is (a .file .now) (a .table .now) (a .client) (a .key) (a .payload .now) (a .answer .now) true
+    (not-false _
+    (c .before .before .before .before .before .before .before .before .before .before .before .before .if1 .left))
 
 finish-insert-requires : tie.Need-finish-insert-requires
 finish-insert-requires c κs =
@@ -78,13 +113,22 @@ finish-insert-requires c κs =
     let o = c .before .before .before .before .before .before .before .before .«open» in
     let g = o .ensures .1 (c .before .before .before .before .before .before .before .if2 .left) in
     let w = c .before .before .before .before .before .walk-route in (
-      eqb-true _ 24 (and-left _ _ (not-false _ (c .before .before .before .before .before .before .before .before .before .before .before .if1 .left))),
+      eqb-true _ 24
+          (and-left _ _
+          (not-false _
+          (c .before .before .before .before .before .before .before .before .before .before .before .if1 .left))),
       record {
         opened = g;
-        ended = subst (λ (s : Bool). Walked (a .file .now) (a .key) (wayOf (a .file .now) (o .result .image) (a .key)) (w .result .walk) (w .result .bucket) s) (not-false _ (c .before .before .before .if3 .left)) (w .ensures .0);
+        ended = subst
+            (λ (s : Bool). Walked (a .file .now) (a .key) (wayOf (a .file .now) (o .result .image) (a .key))
+            (w .result .walk) (w .result .bucket) s) (not-false _ (c .before .before .before .if3 .left))
+            (w .ensures .0);
         slot = w .ensures .1 (not-false _ (c .before .before .before .if3 .left));
       },
-      eqb-true _ 14 (and-right (eqb (length (a .answer .now)) 24) _ (not-false _ (c .before .before .before .before .before .before .before .before .before .before .before .if1 .left))),
+      eqb-true _ 14
+          (and-right (eqb (length (a .answer .now)) 24) _
+          (not-false _
+          (c .before .before .before .before .before .before .before .before .before .before .before .if1 .left))),
     )
 
 same-length-7 : tie.Need-same-length-7
@@ -102,7 +146,7 @@ returns-4 c =
     let o = c .before .before .before .before .before .before .before .before .before .before .before .before .before .before .before .«open» in
     let g = o .ensures .1 (c .before .before .before .before .before .before .before .before .before .before .before .before .before .before .if2 .left) in
     c .before .before .before .before .before .before .finish-insert .ensures
-    ∙ routed-reached (a .file .now) (a .table .now) (a .client) (a .key) (a .answer .now) (placed (a .file .now) (a .table .now) (a .client) (a .key) (a .payload .now)) (sym (o .ensures .0) ∙ c .before .before .before .before .before .before .before .before .before .before .before .before .before .before .if2 .left) (sym (c .before .before .before .before .before .before .before .before .before .before .before .before .walk-route .ensures .0 .sound ∙ ap (λ (x : Image). everyOn (bucketSoundIn (a .file .now)) (wayOf (a .file .now) x (a .key))) (g .is)) ∙ not-false _ (c .before .before .before .before .before .before .before .before .before .before .if3 .left))
+    ∙ routed-reached (a .file .now) (a .table .now) (a .client) (a .key) (a .answer .now) (placed (a .file .now) (a .table .now) (a .client) (a .key) (a .payload .now)) (sym (o .ensures .0) ∙ c .before .before .before .before .before .before .before .before .before .before .before .before .before .before .if2 .left) (sym (c .before .before .before .before .before .before .before .before .before .before .before .before .walk-route .ensures .0 .sound ∙ ap (λ (x : Image). every (bucketSoundIn (a .file .now)) (wayOf (a .file .now) x (a .key))) (g .is)) ∙ not-false _ (c .before .before .before .before .before .before .before .before .before .before .if3 .left))
     ∙ insert-is (a .file .now) (a .table .now) (a .client) (a .key) (a .payload .now) (a .answer .now) true (not-false _ (c .before .before .before .before .before .before .before .before .before .before .before .before .before .before .before .before .before .before .if1 .left))
 
 pub insert-spec : {M : Type 1} → statement M

@@ -3,8 +3,9 @@ use mathlib.Core.Path.{sym, ap, subst, _∙_}
 use mathlib.Core.Bool.{Bool, true, false}
 use borrow.Author.Tests.{not-true, not-false, eq-eqb, ne-eqb}
 use Rattle.address.specs.declared.Image.{Image}
+use Rattle.bucket.specs.Region.{every}
 use Rattle.file.specs.File.{bucketSoundIn}
-use Rattle.route.specs.Way.{noted, wayOf, everyOn, cut}
+use Rattle.route.specs.Way.{noted, wayOf, cut}
 use Rattle.route.specs.Way.Route.{Walked}
 use Rattle.ride.specs.Call.{searched}
 use Rattle.ride.specs.Call.Replied.{search-is, routed-block, routed-early, routed-stopped, routed-reached}
@@ -15,7 +16,10 @@ use Rattle.ride.proofs.search.Tie as tie
 returns : tie.Need-returns
 returns c =
     let a = c .before .before .before .before .args in
-    routed-block (a .file .now) (a .table .now) (a .client) (a .key) (a .answer .now) (searched (a .file .now) (a .table .now) (a .client) (a .key)) ∙ search-is (a .file .now) (a .table .now) (a .client) (a .key) (a .answer .now) false (ne-eqb _ 24 (c .if1 .taken))
+    routed-block (a .file .now) (a .table .now) (a .client) (a .key) (a .answer .now)
+    (searched (a .file .now) (a .table .now) (a .client) (a .key))
+    ∙ search-is (a .file .now) (a .table .now) (a .client) (a .key) (a .answer .now) false
+    (ne-eqb _ 24 (c .if1 .taken))
 
 open-requires : tie.Need-open-requires
 open-requires c κs = search needs
@@ -33,9 +37,18 @@ returns-2 : tie.Need-returns-2
 returns-2 c =
     let a = c .before .before .before .before .before .before .before .before .before .before .before .args in
     let o = c .before .before .before .before .before .«open» in
-    (λ i. record { answer = o .result .reply; block = c .before .before .put-refusal .ensures i; table = a .table .now; file = a .file .now })
-    ∙ routed-early (a .file .now) (a .table .now) (a .client) (a .key) (a .answer .now) (searched (a .file .now) (a .table .now) (a .client) (a .key)) (o .result .reply) (o .ensures .0) (c .before .before .before .before .if2 .taken)
-    ∙ search-is (a .file .now) (a .table .now) (a .client) (a .key) (a .answer .now) true (eq-eqb _ 24 (c .before .before .before .before .before .before .before .if1 .left))
+    (λ i.
+    record {
+      answer = o .result .reply;
+      block = c .before .before .put-refusal .ensures i;
+      table = a .table .now;
+      file = a .file .now;
+    })
+    ∙ routed-early (a .file .now) (a .table .now) (a .client) (a .key) (a .answer .now)
+    (searched (a .file .now) (a .table .now) (a .client) (a .key)) (o .result .reply) (o .ensures .0)
+    (c .before .before .before .before .if2 .taken)
+    ∙ search-is (a .file .now) (a .table .now) (a .client) (a .key) (a .answer .now) true
+    (eq-eqb _ 24 (c .before .before .before .before .before .before .before .if1 .left))
 
 walk-route-requires : tie.Need-walk-route-requires
 walk-route-requires c κs =
@@ -57,11 +70,25 @@ returns-3 c =
     let o = c .before .before .before .before .before .before .before .before .«open» in
     let g = o .ensures .1 (c .before .before .before .before .before .before .before .if2 .left) in
     let w = c .before .before .before .before .before .before .walk-route in
-    (λ i. record { answer = 7; block = c .before .before .put-block .ensures i; table = a .table .now; file = a .file .now })
-    ∙ routed-stopped (a .file .now) (a .table .now) (a .client) (a .key) (a .answer .now) (searched (a .file .now) (a .table .now) (a .client) (a .key)) (sym (o .ensures .0) ∙ c .before .before .before .before .before .before .before .if2 .left) (noted (w .result .walk))
-    (w .ensures .0 .met ∙ ap (λ (x : Image). cut (bucketSoundIn (a .file .now)) (wayOf (a .file .now) x (a .key))) (g .is))
-    (sym (c .before .before .before .before .before .before .walk-route .ensures .0 .sound ∙ ap (λ (x : Image). everyOn (bucketSoundIn (a .file .now)) (wayOf (a .file .now) x (a .key))) (g .is)) ∙ not-true _ (c .before .before .before .before .if3 .taken))
-    ∙ search-is (a .file .now) (a .table .now) (a .client) (a .key) (a .answer .now) true (eq-eqb _ 24 (c .before .before .before .before .before .before .before .before .before .before .if1 .left))
+    (λ i.
+    record {
+      answer = 7;
+      block = c .before .before .put-block .ensures i;
+      table = a .table .now;
+      file =
+          a .file .now;
+    })
+    ∙ routed-stopped (a .file .now) (a .table .now) (a .client) (a .key) (a .answer .now)
+    (searched (a .file .now) (a .table .now) (a .client) (a .key))
+    (sym (o .ensures .0) ∙ c .before .before .before .before .before .before .before .if2 .left)
+    (noted (w .result .walk))
+    (w .ensures .0 .met ∙ ap (λ (x : Image). cut (bucketSoundIn (a .file .now)) (wayOf (a .file .now) x (a .key)))
+    (g .is))
+    (sym (c .before .before .before .before .before .before .walk-route .ensures .0 .sound
+    ∙ ap (λ (x : Image). every (bucketSoundIn (a .file .now)) (wayOf (a .file .now) x (a .key))) (g .is))
+    ∙ not-true _ (c .before .before .before .before .if3 .taken))
+    ∙ search-is (a .file .now) (a .table .now) (a .client) (a .key) (a .answer .now) true
+    (eq-eqb _ 24 (c .before .before .before .before .before .before .before .before .before .before .if1 .left))
 
 finish-search-requires : tie.Need-finish-search-requires
 finish-search-requires c κs =
@@ -72,7 +99,9 @@ finish-search-requires c κs =
       c .before .before .before .before .before .before .before .before .if1 .left,
       record {
         opened = g;
-        ended = subst (λ (s : Bool). Walked (a .file .now) (a .key) (wayOf (a .file .now) (o .result .image) (a .key)) (w .result .walk) (w .result .bucket) s) (not-false _ (c .before .before .if3 .left)) (w .ensures .0);
+        ended = subst
+            (λ (s : Bool). Walked (a .file .now) (a .key) (wayOf (a .file .now) (o .result .image) (a .key))
+            (w .result .walk) (w .result .bucket) s) (not-false _ (c .before .before .if3 .left)) (w .ensures .0);
         slot = w .ensures .1 (not-false _ (c .before .before .if3 .left));
       },
     )
@@ -87,9 +116,16 @@ returns-4 : tie.Need-returns-4
 returns-4 c =
     let a = c .before .before .before .before .before .before .before .before .before .before .before .before .before .before .before .before .before .args in
     let o = c .before .before .before .before .before .before .before .before .before .before .before .«open» in
-    let g = o .ensures .1 (c .before .before .before .before .before .before .before .before .before .before .if2 .left) in
+    let g = o .ensures .1 (c .before .before .before .before .before .before .before .before .before .before .if2 .left)
+    in
     c .before .before .before .before .finish-search .ensures
-    ∙ routed-reached (a .file .now) (a .table .now) (a .client) (a .key) (a .answer .now) (searched (a .file .now) (a .table .now) (a .client) (a .key)) (sym (o .ensures .0) ∙ c .before .before .before .before .before .before .before .before .before .before .if2 .left) (sym (c .before .before .before .before .before .before .before .before .before .walk-route .ensures .0 .sound ∙ ap (λ (x : Image). everyOn (bucketSoundIn (a .file .now)) (wayOf (a .file .now) x (a .key))) (g .is)) ∙ not-false _ (c .before .before .before .before .before .before .before .if3 .left))
+    ∙ routed-reached (a .file .now) (a .table .now) (a .client) (a .key) (a .answer .now)
+    (searched (a .file .now) (a .table .now) (a .client) (a .key))
+    (sym (o .ensures .0)
+    ∙ c .before .before .before .before .before .before .before .before .before .before .if2 .left)
+    (sym (c .before .before .before .before .before .before .before .before .before .walk-route .ensures .0 .sound
+    ∙ ap (λ (x : Image). every (bucketSoundIn (a .file .now)) (wayOf (a .file .now) x (a .key))) (g .is))
+    ∙ not-false _ (c .before .before .before .before .before .before .before .if3 .left))
     ∙ search-is (a .file .now) (a .table .now) (a .client) (a .key) (a .answer .now) true (eq-eqb _ 24 (c .before .before .before .before .before .before .before .before .before .before .before .before .before .if1 .left))
 
 pub search-spec : {M : Type 1} → statement M

@@ -1,5 +1,5 @@
--- A key call's two ways out: it is refused before the key's own bucket, and table and file are as they were, or it reaches that bucket.
--- And its reply, as document 01 lists it.
+-- A key call's two ways out: it is refused before the key's own bucket, and table and file are as they were, or it
+-- reaches that bucket. And its reply, as document 01 lists it.
 use Prim.Native.Nat.{ℕ, _≤_}
 use mathlib.Core.Path.{_≡_, refl, sym, ap, subst, _∙_}
 use mathlib.Core.Bool.{Bool, true, false, cond, not, _&&_, true≢false}
@@ -10,11 +10,11 @@ use borrow.Author.Tests.{eqb-true, eqb-false}
 use lib.Dec.{eqb}
 use lib.ListN.{length}
 use Rattle.layout.specs.Replies.{Refusal, refuse, reply, reply-is, reply-none, reply-here, reply-past, reply-append}
-use Rattle.bucket.specs.Region.{rideAt, slotOf}
+use Rattle.bucket.specs.Region.{rideAt, slotOf, every}
 use Rattle.client.specs.Table.{imageOf}
 use Rattle.file.specs.File.{bucketSoundIn, regionOf}
 use Rattle.answer.specs.Answer.{block, noPayload}
-use Rattle.route.specs.Way.{early, cut, everyOn, wayOf, ownOf, held, full}
+use Rattle.route.specs.Way.{early, cut, wayOf, ownOf, held, full}
 use Rattle.route.specs.Way.Open.{early-else, early-range}
 use Rattle.ride.specs.Call.{Outcome, adjustedTable, routed, searched, search, overfull, inserted, placed, insert}
 use Rattle.ride.specs.Call.Replied.{search-found, search-absent, insert-held, insert-full, insert-done}
@@ -23,7 +23,7 @@ use Rattle.ride.specs.Call.Replied.{search-found, search-absent, insert-
 pub record Through (fits : Bool) (file table : List ℕ) (client key : ℕ) : Type 0 where
   pub fit : fits ≡ true
   pub none : reply (early file table client) 0 ≡ 0
-  pub sound : everyOn (bucketSoundIn file) (wayOf file (imageOf table client) key) ≡ true
+  pub sound : every (bucketSoundIn file) (wayOf file (imageOf table client) key) ≡ true
 
 -- a refusal before it: not 8 nor 9, table and file as they were, and with 14 the answer block too
 pub record Refused (fits : Bool) (file table : List ℕ) (client key : ℕ) (answer : List ℕ) (o : Outcome) : Type 0 where
@@ -44,32 +44,71 @@ module _ (fits : Bool) (file table : List ℕ) (client key : ℕ) (answer : List
   left : Bool → Bool → Bool → Outcome
   left x y z = cond (not x) (record { answer = 14; block = answer; table = table; file = file })
       (cond (not y) (record { answer = r; block = block r [] 0 noPayload; table = table; file = file })
-      (cond (not z) (record { answer = 7; block = block 7 (cut (bucketSoundIn file) way) 0 noPayload; table = table; file = file }) reached))
+      (cond (not z)
+      (record {
+        answer = 7;
+        block = block 7 (cut (bucketSoundIn file) way) 0 noPayload;
+        table = table;
+        file =
+            file;
+      }) reached))
 
-  left-is : left fits (eqb r 0) (everyOn (bucketSoundIn file) way) ≡ routed fits file table client key answer reached
+  left-is : left fits (eqb r 0) (every (bucketSoundIn file) way) ≡ routed fits file table client key answer reached
   unfolding left r way routed
   left-is = refl
 
   pub routed-ways : Refused fits file table client key answer (routed fits file table client key answer reached)
       ⊎ (Through fits file table client key × (reached ≡ routed fits file table client key answer reached))
   unfolding left r way routed
-  routed-ways = go fits refl (eqb r 0) refl (everyOn (bucketSoundIn file) way) refl
+  routed-ways = go fits refl (eqb r 0) refl (every (bucketSoundIn file) way) refl
     where
-      go : (x : Bool) → fits ≡ x → (y : Bool) → eqb r 0 ≡ y → (z : Bool) → everyOn (bucketSoundIn file) way ≡ z
-          → Refused fits file table client key answer (left x y z) ⊎ (Through fits file table client key × (reached ≡ left x y z))
-      go false ex y ey z ez = inl (record { why = λ t. true≢false (sym (t .fit) ∙ ex); some = omega arith; before = (λ e. omega (arith, e), λ e. omega (arith, e)); table-left = refl; file-left = refl; block-left = λ e. refl })
+      go : (x : Bool) → fits ≡ x → (y : Bool) → eqb r 0 ≡ y → (z : Bool) → every (bucketSoundIn file) way ≡ z
+          → Refused fits file table client key answer (left x y z)
+          ⊎ (Through fits file table client key × (reached ≡ left x y z))
+      go false ex y ey z ez = inl
+          (record {
+            why = λ t. true≢false (sym (t .fit) ∙ ex);
+            some = omega arith;
+            before =
+                (λ e. omega (arith, e), λ e. omega (arith, e));
+            table-left = refl;
+            file-left = refl;
+            block-left = λ e. refl;
+          })
       go true ex false ey z ez =
           let range = early-range file table client (eqb-false r 0 ey) in
-          inl (record { why = λ t. eqb-false r 0 ey (t .none); some = range .0; before = (λ e. omega (arith, e, range .1), λ e. omega (arith, e, range .1)); table-left = refl; file-left = refl; block-left = λ e. absurd (omega (arith, e, range .1)) })
-      go true ex true ey false ez = inl (record { why = λ t. true≢false (sym (t .sound) ∙ ez); some = omega arith; before = (λ e. omega (arith, e), λ e. omega (arith, e)); table-left = refl; file-left = refl; block-left = λ e. absurd (omega (arith, e)) })
+          inl (record {
+            why = λ t. eqb-false r 0 ey (t .none);
+            some = range .0;
+            before =
+                (λ e. omega (arith, e, range .1), λ e. omega (arith, e, range .1));
+            table-left = refl;
+            file-left = refl;
+            block-left = λ e. absurd (omega (arith, e, range .1));
+          })
+      go true ex true ey false ez = inl
+          (record {
+            why = λ t. true≢false (sym (t .sound) ∙ ez);
+            some = omega arith;
+            before =
+                (λ e. omega (arith, e), λ e. omega (arith, e));
+            table-left = refl;
+            file-left = refl;
+            block-left = λ e. absurd
+                (omega (arith, e));
+          })
       go true ex true ey true ez = inr (record { fit = ex; none = eqb-true r 0 ey; sound = ez }, refl)
 
   -- 14, 2 to 6, 7, then the reply at the key's own bucket
   pub routed-reply : (rest : List Refusal) → reached .answer ≡ reply rest 0
       → routed fits file table client key answer reached .answer
-      ≡ reply (refuse 14 (not fits) ∷ (early file table client ++ (refuse 7 (not (everyOn (bucketSoundIn file) (wayOf file (imageOf table client) key))) ∷ rest))) 0
+      ≡ reply
+      (refuse 14 (not fits)
+      ∷ (early file table client
+      ++ (refuse 7 (not (every (bucketSoundIn file) (wayOf file (imageOf table client) key))) ∷ rest))) 0
   unfolding left r way
-  routed-reply rest e = sym (ap (λ (o : Outcome). o .answer) left-is) ∙ go fits (eqb r 0) (everyOn (bucketSoundIn file) way) ∙ sym listed
+  routed-reply rest e = sym (ap (λ (o : Outcome). o .answer) left-is)
+      ∙ go fits (eqb r 0) (every (bucketSoundIn file) way) ∙ sym listed
     where
       go : (x y z : Bool) → left x y z .answer ≡ cond (not x) 14 (cond y (cond (not z) 7 (reached .answer)) r)
       go false y z = refl
@@ -77,22 +116,34 @@ module _ (fits : Bool) (file table : List ℕ) (client key : ℕ) (answer : List
       go true true false = refl
       go true true true = refl
 
-      listed : reply (refuse 14 (not fits) ∷ (early file table client ++ (refuse 7 (not (everyOn (bucketSoundIn file) way)) ∷ rest))) 0
-          ≡ cond (not fits) 14 (cond (eqb r 0) (cond (not (everyOn (bucketSoundIn file) way)) 7 (reached .answer)) r)
+      listed : reply
+          (refuse 14 (not fits)
+          ∷ (early file table client ++ (refuse 7 (not (every (bucketSoundIn file) way)) ∷ rest))) 0
+          ≡ cond (not fits) 14 (cond (eqb r 0) (cond (not (every (bucketSoundIn file) way)) 7 (reached .answer)) r)
       listed = reply-is 14 (not fits) _ 0
-          ∙ ap (λ (n : ℕ). cond (not fits) 14 n) (reply-append (early file table client) _ 0 ∙ early-else file table client _
-          ∙ ap (λ (n : ℕ). cond (eqb r 0) n r) (reply-is 7 _ rest 0 ∙ ap (λ (n : ℕ). cond (not (everyOn (bucketSoundIn file) way)) 7 n) (sym e)))
+          ∙ ap (λ (n : ℕ). cond (not fits) 14 n)
+          (reply-append (early file table client) _ 0 ∙ early-else file table client _
+          ∙ ap (λ (n : ℕ). cond (eqb r 0) n r)
+          (reply-is 7 _ rest 0 ∙ ap (λ (n : ℕ). cond (not (every (bucketSoundIn file) way)) 7 n) (sym e)))
 
 -- at the key's own bucket: a search finds the key or not, an insert is refused by 8, by 9, or done
 module _ (file table : List ℕ) (client key : ℕ) where
   searched-ways : (P : Outcome → Type 0)
       → (held file key ≡ true → P (record {
         answer = 0;
-        block = block 0 (wayOf file (imageOf table client) key) 0 (rideAt (regionOf file (ownOf file key)) (slotOf (regionOf file (ownOf file key)) key) .payload);
+        block = block 0 (wayOf file (imageOf table client) key) 0
+            (rideAt (regionOf file (ownOf file key)) (slotOf (regionOf file (ownOf file key)) key) .payload);
         table = adjustedTable file table client key;
         file = file;
       }))
-      → (held file key ≡ false → P (record { answer = 1; block = block 1 (wayOf file (imageOf table client) key) 0 noPayload; table = adjustedTable file table client key; file = file }))
+      → (held file key ≡ false → P
+      (record {
+        answer = 1;
+        block = block 1 (wayOf file (imageOf table client) key) 0 noPayload;
+        table =
+            adjustedTable file table client key;
+        file = file;
+      }))
       → P (searched file table client key)
   searched-ways P found absent = go (held file key) refl
     where
@@ -101,9 +152,22 @@ module _ (file table : List ℕ) (client key : ℕ) where
       go false e = subst P (search-absent file table client key _ _ _ refl refl e refl) (absent e)
 
   placed-ways : (payload : List ℕ) (P : Outcome → Type 0)
-      → (held file key ≡ true → P (record { answer = 8; block = block 8 (wayOf file (imageOf table client) key) 0 noPayload; table = adjustedTable file table client key; file = file }))
+      → (held file key ≡ true → P
+      (record {
+        answer = 8;
+        block = block 8 (wayOf file (imageOf table client) key) 0 noPayload;
+        table =
+            adjustedTable file table client key;
+        file = file;
+      }))
       → (held file key ≡ false → full file key ≡ true
-      → P (record { answer = 9; block = block 9 (wayOf file (imageOf table client) key) 0 noPayload; table = adjustedTable file table client key; file = file }))
+      → P (record {
+        answer = 9;
+        block = block 9 (wayOf file (imageOf table client) key) 0 noPayload;
+        table =
+            adjustedTable file table client key;
+        file = file;
+      }))
       → (held file key ≡ false → full file key ≡ false → P (record {
         answer = 0;
         block = block 0 (wayOf file (imageOf table client) key) (overfull file key) noPayload;
@@ -116,19 +180,27 @@ module _ (file table : List ℕ) (client key : ℕ) where
       go : (x : Bool) → held file key ≡ x → (y : Bool) → full file key ≡ y → P (placed file table client key payload)
       go true eh y ef = subst P (insert-held file table client key _ _ _ refl refl payload eh refl) (there eh)
       go false eh true ef = subst P (insert-full file table client key _ _ _ refl refl payload eh ef refl) (whole eh ef)
-      go false eh false ef = subst P (insert-done file table client key _ _ _ refl refl payload eh ef _ refl refl _ refl) (done eh ef)
+      go false eh false ef = subst P
+          (insert-done file table client key _ _ _ refl refl payload eh ef _ refl refl _ refl) (done eh ef)
 
 -- so what holds of every way out holds of the call
 pub search-ways : (file table : List ℕ) (client key : ℕ) (answer : List ℕ) (P : Outcome → Type 0)
     → ((o : Outcome) → Refused (eqb (length answer) 24) file table client key answer o → P o)
     → (Through (eqb (length answer) 24) file table client key → held file key ≡ true → P (record {
       answer = 0;
-      block = block 0 (wayOf file (imageOf table client) key) 0 (rideAt (regionOf file (ownOf file key)) (slotOf (regionOf file (ownOf file key)) key) .payload);
+      block = block 0 (wayOf file (imageOf table client) key) 0
+          (rideAt (regionOf file (ownOf file key)) (slotOf (regionOf file (ownOf file key)) key) .payload);
       table = adjustedTable file table client key;
       file = file;
     }))
     → (Through (eqb (length answer) 24) file table client key → held file key ≡ false
-    → P (record { answer = 1; block = block 1 (wayOf file (imageOf table client) key) 0 noPayload; table = adjustedTable file table client key; file = file }))
+    → P (record {
+      answer = 1;
+      block = block 1 (wayOf file (imageOf table client) key) 0 noPayload;
+      table = adjustedTable
+          file table client key;
+      file = file;
+    }))
     → P (search file table client key answer)
 unfolding search
 search-ways file table client key answer P refused found absent = ⊎-elim
@@ -139,10 +211,24 @@ search-ways file table client key answer P refused found absent = ⊎-elim
 pub insert-ways : (file table : List ℕ) (client key : ℕ) (payload answer : List ℕ) (P : Outcome → Type 0)
     → ((o : Outcome) → Refused (eqb (length answer) 24 && eqb (length payload) 14) file table client key answer o → P o)
     → (Through (eqb (length answer) 24 && eqb (length payload) 14) file table client key → held file key ≡ true
-    → P (record { answer = 8; block = block 8 (wayOf file (imageOf table client) key) 0 noPayload; table = adjustedTable file table client key; file = file }))
-    → (Through (eqb (length answer) 24 && eqb (length payload) 14) file table client key → held file key ≡ false → full file key ≡ true
-    → P (record { answer = 9; block = block 9 (wayOf file (imageOf table client) key) 0 noPayload; table = adjustedTable file table client key; file = file }))
-    → (Through (eqb (length answer) 24 && eqb (length payload) 14) file table client key → held file key ≡ false → full file key ≡ false → P (record {
+    → P (record {
+      answer = 8;
+      block = block 8 (wayOf file (imageOf table client) key) 0 noPayload;
+      table = adjustedTable
+          file table client key;
+      file = file;
+    }))
+    → (Through (eqb (length answer) 24 && eqb (length payload) 14) file table client key → held file key ≡ false
+    → full file key ≡ true
+    → P (record {
+      answer = 9;
+      block = block 9 (wayOf file (imageOf table client) key) 0 noPayload;
+      table = adjustedTable
+          file table client key;
+      file = file;
+    }))
+    → (Through (eqb (length answer) 24 && eqb (length payload) 14) file table client key → held file key ≡ false
+    → full file key ≡ false → P (record {
       answer = 0;
       block = block 0 (wayOf file (imageOf table client) key) (overfull file key) noPayload;
       table = adjustedTable file table client key;
@@ -153,14 +239,18 @@ unfolding insert
 insert-ways file table client key payload answer P refused there whole done = ⊎-elim
     (refused _)
     (λ w. subst P (w .1) (placed-ways file table client key payload P (there (w .0)) (whole (w .0)) (done (w .0))))
-    (routed-ways (eqb (length answer) 24 && eqb (length payload) 14) file table client key answer (placed file table client key payload))
+    (routed-ways (eqb (length answer) 24 && eqb (length payload) 14) file table client key answer
+    (placed file table client key payload))
 
 -- the reply, as document 01 lists it
-pub search-reply : (file table : List ℕ) (client key : ℕ) (answer : List ℕ) → search file table client key answer .answer
+pub search-reply : (file table : List ℕ) (client key : ℕ) (answer : List ℕ)
+    → search file table client key answer .answer
     ≡ reply (refuse 14 (not (eqb (length answer) 24)) ∷ (early file table client
-    ++ (refuse 7 (not (everyOn (bucketSoundIn file) (wayOf file (imageOf table client) key))) ∷ refuse 1 (not (held file key)) ∷ []))) 0
+    ++ (refuse 7 (not (every (bucketSoundIn file) (wayOf file (imageOf table client) key)))
+    ∷ refuse 1 (not (held file key)) ∷ []))) 0
 unfolding search
-search-reply file table client key answer = routed-reply (eqb (length answer) 24) file table client key answer (searched file table client key) last
+search-reply file table client key answer = routed-reply (eqb (length answer) 24) file table client key answer
+    (searched file table client key) last
     (searched-ways file table client key (λ o. o .answer ≡ reply last 0)
     (λ e. sym (reply-past 1 (not (held file key)) [] 0 (ap not e) ∙ reply-none 0))
     (λ e. sym (reply-here 1 (not (held file key)) [] 0 (ap not e))))
@@ -168,12 +258,15 @@ search-reply file table client key answer = routed-reply (eqb (length answer) 24
     last : List Refusal
     last = refuse 1 (not (held file key)) ∷ []
 
-pub insert-reply : (file table : List ℕ) (client key : ℕ) (payload answer : List ℕ) → insert file table client key payload answer .answer
+pub insert-reply : (file table : List ℕ) (client key : ℕ) (payload answer : List ℕ)
+    → insert file table client key payload answer .answer
     ≡ reply (refuse 14 (not (eqb (length answer) 24 && eqb (length payload) 14)) ∷ (early file table client
-    ++ (refuse 7 (not (everyOn (bucketSoundIn file) (wayOf file (imageOf table client) key))) ∷ refuse 8 (held file key) ∷ refuse 9 (full file key) ∷ []))) 0
+    ++ (refuse 7 (not (every (bucketSoundIn file) (wayOf file (imageOf table client) key))) ∷ refuse 8 (held file key)
+    ∷ refuse 9 (full file key) ∷ []))) 0
 unfolding insert
 insert-reply file table client key payload answer =
-    routed-reply (eqb (length answer) 24 && eqb (length payload) 14) file table client key answer (placed file table client key payload) last
+    routed-reply (eqb (length answer) 24 && eqb (length payload) 14) file table client key answer
+    (placed file table client key payload) last
     (placed-ways file table client key payload (λ o. o .answer ≡ reply last 0)
     (λ e. sym (reply-here 8 (held file key) _ 0 e))
     (λ e f. sym (reply-past 8 (held file key) _ 0 e ∙ reply-here 9 (full file key) [] 0 f))

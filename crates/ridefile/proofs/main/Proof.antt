@@ -33,7 +33,8 @@ array-share-prefix-out : tie.Need-array-share-prefix-out
 array-share-prefix-out c = search needs
 
 slice-aggregate-write-all : tie.Need-slice-aggregate-write-all
-slice-aggregate-write-all c = sym (length-take-le (c .before .before .run .result) _ (array-share-prefix-out (c .before)))
+slice-aggregate-write-all c = sym
+    (length-take-le (c .before .before .run .result) _ (array-share-prefix-out (c .before)))
 
 write-all-requires : tie.Need-write-all-requires
 write-all-requires c κs = search needs

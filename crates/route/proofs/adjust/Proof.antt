@@ -8,6 +8,7 @@ use Rattle.address.specs.Rules.{adjusted}
 use Rattle.address.specs.Rules.Cases.{level-high}
 use Rattle.client.specs.Table.{withImage}
 use borrow.Author.Needs.{needs}
+use Rattle.address.specs.Limits.{firstBuckets}
 use Rattle.route.proofs.adjust.Statement.{statement}
 use Rattle.route.proofs.adjust.Tie as tie
 
@@ -16,14 +17,31 @@ level-of-requires c κs = search needs
 
 adjusted-requires : tie.Need-adjusted-requires
 adjusted-requires c κs =
-    let a = c .before .before .before .args in
-    (record { some = omega arith; few = omega arith; low = omega (arith, level-high 1 (a .header .state) (a .walk .first), c .before .level-of .ensures, c .before .before .before .pre .1 .levels .low) }, omega arith)
+    let a = c .before .before .before .args in (
+      record {
+        some = omega arith;
+        few = omega arith;
+        low = omega (
+          arith,
+          level-high 1 (a .header .state) (a .walk .first),
+          c .before .level-of .ensures,
+          c .before .before .before .pre .1 .levels .low,
+        );
+      },
+      omega arith,
+    )
 
 put-image-requires : tie.Need-put-image-requires
 put-image-requires c κs =
     let a = c .before .before .before .before .before .args in
-    let next = c .before .adjusted .ensures ∙ ap (λ (l : ℕ). adjusted 1 (a .image) (a .walk .first) l (eqb (a .walk .count) 1)) (c .before .before .before .level-of .ensures) in
-    (c .before .before .before .before .before .pre .0, omega (arith, ap (λ (x : Image). x .level) next), omega (arith, ap (λ (x : Image). x .pointer) next))
+    let next = c .before .adjusted .ensures
+    ∙ ap (λ (l : ℕ). adjusted firstBuckets (a .image) (a .walk .first) l (eqb (a .walk .count) 1))
+    (c .before .before .before .level-of .ensures) in (
+      c .before .before .before .before .before .pre .0,
+      omega (arith, ap (λ (x : Image). x .level) next),
+      omega
+          (arith, ap (λ (x : Image). x .pointer) next),
+    )
 
 same-length : tie.Need-same-length
 same-length c = search needs
@@ -31,7 +49,11 @@ same-length c = search needs
 returns : tie.Need-returns
 returns c =
     let a = c .before .before .before .before .before .before .before .before .args in
-    c .before .before .put-image .ensures ∙ ap (withImage (a .table .now) (a .client)) (c .before .before .before .before .adjusted .ensures ∙ ap (λ (l : ℕ). adjusted 1 (a .image) (a .walk .first) l (eqb (a .walk .count) 1)) (c .before .before .before .before .before .before .level-of .ensures))
+    c .before .before .put-image .ensures
+    ∙ ap (withImage (a .table .now) (a .client))
+    (c .before .before .before .before .adjusted .ensures
+    ∙ ap (λ (l : ℕ). adjusted firstBuckets (a .image) (a .walk .first) l (eqb (a .walk .count) 1))
+    (c .before .before .before .before .before .before .level-of .ensures))
 
 pub adjust-spec : {M : Type 1} → statement M
 adjust-spec =

@@ -16,7 +16,8 @@ shown count k bucket = cond (ltb k count) bucket noBucket
 
 module _ (walk : Walk) where
   by-count : (P : List ℕ → ℕ → Type 0) → walk .count ≤ 3
-      → P [] 0 → P (walk .first ∷ []) 1 → P (walk .first ∷ walk .second ∷ []) 2 → P (walk .first ∷ walk .second ∷ walk .third ∷ []) 3 → P (noted walk) (walk .count)
+      → P [] 0 → P (walk .first ∷ []) 1 → P (walk .first ∷ walk .second ∷ []) 2
+      → P (walk .first ∷ walk .second ∷ walk .third ∷ []) 3 → P (noted walk) (walk .count)
   unfolding noted
   by-count P few p0 p1 p2 p3 = go (walk .count) few
     where
@@ -45,14 +46,20 @@ module _ (walk : Walk) where
 
 -- one bucket more
 module _ (walk : Walk) (a : ℕ) where
-  pub note-first : walk .count ≡ 0 → noted (record { count = walk .count + 1; first = a; second = walk .second; third = walk .third }) ≡ noted walk ++ (a ∷ [])
+  pub note-first : walk .count ≡ 0
+      → noted (record { count = walk .count + 1; first = a; second = walk .second; third = walk .third })
+      ≡ noted walk ++ (a ∷ [])
   unfolding noted
   note-first e = rw e
 
-  pub note-second : walk .count ≡ 1 → noted (record { count = walk .count + 1; first = walk .first; second = a; third = walk .third }) ≡ noted walk ++ (a ∷ [])
+  pub note-second : walk .count ≡ 1
+      → noted (record { count = walk .count + 1; first = walk .first; second = a; third = walk .third })
+      ≡ noted walk ++ (a ∷ [])
   unfolding noted
   note-second e = rw e
 
-  pub note-third : walk .count ≡ 2 → noted (record { count = walk .count + 1; first = walk .first; second = walk .second; third = a }) ≡ noted walk ++ (a ∷ [])
+  pub note-third : walk .count ≡ 2
+      → noted (record { count = walk .count + 1; first = walk .first; second = walk .second; third = a })
+      ≡ noted walk ++ (a ∷ [])
   unfolding noted
   note-third e = rw e

@@ -16,7 +16,8 @@ own-is file key a e = e
 module _ (file : List ℕ) (key a : ℕ) (own : a ≡ ownOf file key) where
   pub held-is : (k n : ℕ) → k ≡ slotOf (regionOf file a) key → n ≡ countOf (regionOf file a) → ltb k n ≡ held file key
   unfolding held
-  held-is k n ek en = ap₂ ltb (ek ∙ ap (λ (x : ℕ). slotOf (regionOf file x) key) own) (en ∙ ap (λ (x : ℕ). countOf (regionOf file x)) own)
+  held-is k n ek en = ap₂ ltb (ek ∙ ap (λ (x : ℕ). slotOf (regionOf file x) key) own)
+      (en ∙ ap (λ (x : ℕ). countOf (regionOf file x)) own)
 
   pub full-is : (S n : ℕ) → S ≡ slotsOf file → n ≡ countOf (regionOf file a) → leb S n ≡ full file key
   unfolding full

@@ -1,4 +1,5 @@
--- A route walked bucket by bucket: what is noted so far and what is still to come are the whole route, cut after its first unsound bucket.
+-- A route walked bucket by bucket: what is noted so far and what is still to come are the whole route, cut after its
+-- first unsound bucket.
 use Prim.Native.Nat.{ℕ, suc, _+_, _-_, _≤_, _<_}
 use mathlib.Core.Path.{_≡_, refl, sym, ap, ap₂, _∙_}
 use mathlib.Core.Bool.{Bool, true, false, cond, false≢true}
@@ -13,11 +14,12 @@ use Rattle.address.specs.Rules.Cases.{buckets-is, fate-kept, fate-sent, fate-st
 use Rattle.address.specs.declared.Fate.the-variants.{Keep, SendOn, Unsound}
 use Rattle.address.specs.Rules.Address.{address-own}
 use Rattle.address.specs.Rules.Route.{Reaches, kept, sent, reaches, reaches-room, route-is, route-kept, route-sent}
-use Rattle.layout.specs.Bytes.Tests.{and-left, and-right}
+use Rattle.bucket.specs.Region.{every}
+use Rattle.bucket.specs.Region.Every.{every-none, every-first, every-rest, every-next, every-fails, every-past}
 use Rattle.file.specs.File.{stateOf, bucketsOf, bucketSoundIn}
 use Rattle.file.specs.File.Judge.{buckets-of}
 use Rattle.route.specs.declared.Walk.{Walk}
-use Rattle.route.specs.Way.{cut, everyOn, wayOf, ownOf, noted}
+use Rattle.route.specs.Way.{cut, wayOf, ownOf, noted}
 use Rattle.route.specs.Way.Noted.{noted-none}
 use Rattle.route.specs.Way.Own.{own-is}
 
@@ -26,28 +28,21 @@ some-first : 0 < firstBuckets
 some-first = omega arith
 
 -- a cut passes over buckets that pass, and stops at one that fails
-pub cut-past : (test : ℕ → Bool) (xs ys : List ℕ) → everyOn test xs ≡ true → cut test (xs ++ ys) ≡ xs ++ cut test ys
-unfolding cut everyOn
+pub cut-past : (test : ℕ → Bool) (xs ys : List ℕ) → every test xs ≡ true → cut test (xs ++ ys) ≡ xs ++ cut test ys
+unfolding cut
 cut-past test [] ys h = refl
-cut-past test (a ∷ xs) ys h = rw (and-left (test a) (everyOn test xs) h) (ap (λ (l : List ℕ). a ∷ l) (cut-past test xs ys (and-right (test a) (everyOn test xs) h)))
+cut-past test (a ∷ xs) ys h = rw (every-first test a xs h)
+    (ap (λ (l : List ℕ). a ∷ l) (cut-past test xs ys (every-rest test a xs h)))
 
-pub cut-none : (test : ℕ → Bool) (way : List ℕ) → everyOn test way ≡ true → cut test way ≡ way
-unfolding cut everyOn
+pub cut-none : (test : ℕ → Bool) (way : List ℕ) → every test way ≡ true → cut test way ≡ way
+unfolding cut
 cut-none test [] h = refl
-cut-none test (a ∷ way) h = rw (and-left (test a) (everyOn test way) h) (ap (λ (l : List ℕ). a ∷ l) (cut-none test way (and-right (test a) (everyOn test way) h)))
-
-pub every-past : (test : ℕ → Bool) (xs ys : List ℕ) → everyOn test xs ≡ true → everyOn test (xs ++ ys) ≡ everyOn test ys
-unfolding everyOn
-every-past test [] ys h = refl
-every-past test (a ∷ xs) ys h = rw (and-left (test a) (everyOn test xs) h) (every-past test xs ys (and-right (test a) (everyOn test xs) h))
+cut-none test (a ∷ way) h = rw (every-first test a way h)
+    (ap (λ (l : List ℕ). a ∷ l) (cut-none test way (every-rest test a way h)))
 
 pub cut-fails : (test : ℕ → Bool) (a : ℕ) (ys : List ℕ) → test a ≡ false → cut test (a ∷ ys) ≡ a ∷ []
 unfolding cut
 cut-fails test a ys h = rw h
-
-pub every-fails : (test : ℕ → Bool) (a : ℕ) (ys : List ℕ) → test a ≡ false → everyOn test (a ∷ ys) ≡ false
-unfolding everyOn
-every-fails test a ys h = rw h
 
 pub cut-one : (test : ℕ → Bool) (a : ℕ) → cut test (a ∷ []) ≡ a ∷ []
 unfolding cut
@@ -57,17 +52,10 @@ cut-one test a = go (test a)
     go true = refl
     go false = refl
 
-pub every-one : (test : ℕ → Bool) (a : ℕ) → test a ≡ true → everyOn test (a ∷ []) ≡ true
-unfolding everyOn
-every-one test a h = rw h
-
-pub every-none : (test : ℕ → Bool) → everyOn test [] ≡ true
-unfolding everyOn
-every-none test = refl
-
 -- ---- a walk on its way to bucket a
 
-pub way-route : (file : List ℕ) (image : Image) (key : ℕ) → wayOf file image key ≡ route firstBuckets (stateOf file) image key
+pub way-route : (file : List ℕ) (image : Image) (key : ℕ)
+    → wayOf file image key ≡ route firstBuckets (stateOf file) image key
 unfolding wayOf
 way-route file image key = refl
 
@@ -75,9 +63,11 @@ way-route file image key = refl
 pub wayFrom : List ℕ → ℕ → ℕ → List ℕ
 wayFrom file key start = routeFrom firstBuckets (stateOf file) key (buckets firstBuckets (stateOf file)) start
 
-pub way-is : (file : List ℕ) (image : Image) (key start : ℕ) → start ≡ address firstBuckets image key → wayFrom file key start ≡ wayOf file image key
+pub way-is : (file : List ℕ) (image : Image) (key start : ℕ) → start ≡ address firstBuckets image key
+    → wayFrom file key start ≡ wayOf file image key
 unfolding wayFrom
-way-is file image key start e = ap (routeFrom firstBuckets (stateOf file) key (buckets firstBuckets (stateOf file))) e ∙ sym (way-route file image key ∙ route-is firstBuckets (stateOf file) image key)
+way-is file image key start e = ap (routeFrom firstBuckets (stateOf file) key (buckets firstBuckets (stateOf file))) e
+    ∙ sym (way-route file image key ∙ route-is firstBuckets (stateOf file) image key)
 
 pub record Walking (file : List ℕ) (key : ℕ) (way : List ℕ) (walk : Walk) (a : ℕ) : Type 0 where
   pub left : ℕ
@@ -86,13 +76,14 @@ pub record Walking (file : List ℕ) (key : ℕ) (way : List ℕ) (walk : Walk) 
   pub room : left < most
   pub few : walk .count + left ≤ 2
   pub whole : way ≡ noted walk ++ routeFrom firstBuckets (stateOf file) key most a
-  pub fine : everyOn (bucketSoundIn file) (noted walk) ≡ true
+  pub fine : every (bucketSoundIn file) (noted walk) ≡ true
 
--- what a walk that ended tells: the route up to its first unsound bucket, and whether all were sound; then it ends at the key's own bucket
+-- what a walk that ended tells: the route up to its first unsound bucket, and whether all were sound; then it ends at
+-- the key's own bucket
 pub record Walked (file : List ℕ) (key : ℕ) (way : List ℕ) (walk : Walk) (a : ℕ) (all : Bool) : Type 0 where
   pub few : walk .count ≤ 3
   pub some : 1 ≤ walk .count
-  pub sound : all ≡ everyOn (bucketSoundIn file) way
+  pub sound : all ≡ every (bucketSoundIn file) way
   pub met : noted walk ≡ cut (bucketSoundIn file) way
   pub there : a < bucketsOf file
   pub good : all ≡ true → bucketSoundIn file a ≡ true
@@ -101,7 +92,8 @@ pub record Walked (file : List ℕ) (key : ℕ) (way : List ℕ) (walk : Walk) (
 
 module _ (file : List ℕ) (key : ℕ) (formed : Formed firstBuckets (stateOf file)) where
   -- a walk starts at the client's first bucket
-  pub walking-start : (image : Image) (walk : Walk) → walk .count ≡ 0 → Formed firstBuckets image → NotAhead firstBuckets (stateOf file) image
+  pub walking-start : (image : Image) (walk : Walk) → walk .count ≡ 0 → Formed firstBuckets image
+      → NotAhead firstBuckets (stateOf file) image
       → (start : ℕ) → start ≡ address firstBuckets image key → Walking file key (wayFrom file key start) walk start
   unfolding wayFrom
   walking-start image walk none imageFormed behind start es =
@@ -112,14 +104,23 @@ module _ (file : List ℕ) (key : ℕ) (formed : Formed firstBuckets (stateOf fi
         reached = rw es r;
         room = omega (arith, reaches-room firstBuckets some-first (stateOf file) formed r);
         few = omega arith;
-        whole = ap (λ (l : List ℕ). l ++ routeFrom firstBuckets (stateOf file) key (buckets firstBuckets (stateOf file)) start) (sym (noted-none walk none));
-        fine = ap (everyOn (bucketSoundIn file)) (noted-none walk none) ∙ every-none (bucketSoundIn file);
+        whole = ap
+            (λ (l : List ℕ). l ++ routeFrom firstBuckets (stateOf file) key (buckets firstBuckets (stateOf file)) start)
+            (sym (noted-none walk none));
+        fine = ap (every (bucketSoundIn file)) (noted-none walk none) ∙ every-none (bucketSoundIn file);
       }
 
-  module _ (way : List ℕ) (walk next : Walk) (a : ℕ) (so : Walking file key way walk a) (noting : noted next ≡ noted walk ++ (a ∷ [])) (counted : next .count ≡ walk .count + 1) where
+  module _ (way : List ℕ) (walk next : Walk) (a : ℕ) (so : Walking file key way walk a)
+      (noting : noted next ≡ noted walk ++ (a ∷ [])) (counted : next .count ≡ walk .count + 1) where
     -- the bucket that a walk is at exists
     pub walking-exists : a < bucketsOf file
-    walking-exists = omega (arith, reaches-room firstBuckets some-first (stateOf file) formed (so .reached), buckets-of file, buckets-is firstBuckets (stateOf file))
+    walking-exists = omega (
+      arith,
+      reaches-room firstBuckets some-first (stateOf file) formed (so .reached),
+      buckets-of file,
+      buckets-is
+          firstBuckets (stateOf file),
+    )
 
     again : so .most ≡ suc (so .most - 1)
     again = omega (arith, so .room)
@@ -127,10 +128,16 @@ module _ (file : List ℕ) (key : ℕ) (formed : Formed firstBuckets (stateOf fi
     -- the rest of the route starts with it
     first : (rest : List ℕ) × (routeFrom firstBuckets (stateOf file) key (so .most) a ≡ a ∷ rest)
     first = ⊎-elim
-        (λ e. ([], ap (λ (n : ℕ). routeFrom firstBuckets (stateOf file) key n a) again ∙ route-kept firstBuckets (stateOf file) key (so .most - 1) a e))
         (λ e. (
-          routeFrom firstBuckets (stateOf file) key (so .most - 1) (onward firstBuckets a (level firstBuckets (stateOf file) a) key),
-          ap (λ (n : ℕ). routeFrom firstBuckets (stateOf file) key n a) again ∙ route-sent firstBuckets (stateOf file) key (so .most - 1) a e,
+          [],
+          ap (λ (n : ℕ). routeFrom firstBuckets (stateOf file) key n a) again
+              ∙ route-kept firstBuckets (stateOf file) key (so .most - 1) a e,
+        ))
+        (λ e. (
+          routeFrom firstBuckets (stateOf file) key (so .most - 1)
+              (onward firstBuckets a (level firstBuckets (stateOf file) a) key),
+          ap (λ (n : ℕ). routeFrom firstBuckets (stateOf file) key n a) again
+              ∙ route-sent firstBuckets (stateOf file) key (so .most - 1) a e,
         ))
         (same (hash firstBuckets (level firstBuckets (stateOf file) a) key) a)
 
@@ -141,8 +148,11 @@ module _ (file : List ℕ) (key : ℕ) (formed : Formed firstBuckets (stateOf fi
         record {
           few = omega (arith, so .few);
           some = omega arith;
-          sound = sym (ap (everyOn (bucketSoundIn file)) is ∙ every-past (bucketSoundIn file) (noted walk) (a ∷ rest) (so .fine) ∙ every-fails (bucketSoundIn file) a rest bad);
-          met = noting ∙ sym (ap (cut (bucketSoundIn file)) is ∙ cut-past (bucketSoundIn file) (noted walk) (a ∷ rest) (so .fine)
+          sound = sym
+              (ap (every (bucketSoundIn file)) is ∙ every-past (bucketSoundIn file) (noted walk) (a ∷ rest) (so .fine)
+              ∙ every-fails (bucketSoundIn file) a rest bad);
+          met = noting
+              ∙ sym (ap (cut (bucketSoundIn file)) is ∙ cut-past (bucketSoundIn file) (noted walk) (a ∷ rest) (so .fine)
               ∙ ap (λ (l : List ℕ). noted walk ++ l) (cut-fails (bucketSoundIn file) a rest bad));
           there = walking-exists;
           good = λ h. absurd (false≢true h);
@@ -150,7 +160,8 @@ module _ (file : List ℕ) (key : ℕ) (formed : Formed firstBuckets (stateOf fi
           whole = λ h. absurd (false≢true h);
         }
 
-    pub walk-kept : bucketSoundIn file a ≡ true → hash firstBuckets (level firstBuckets (stateOf file) a) key ≡ a → Walked file key way next a true
+    pub walk-kept : bucketSoundIn file a ≡ true → hash firstBuckets (level firstBuckets (stateOf file) a) key ≡ a
+        → Walked file key way next a true
     walk-kept good keeps =
         let is : way ≡ noted walk ++ (a ∷ []) =
         so .whole ∙ ap (λ (n : ℕ). noted walk ++ routeFrom firstBuckets (stateOf file) key n a) again
@@ -158,8 +169,11 @@ module _ (file : List ℕ) (key : ℕ) (formed : Formed firstBuckets (stateOf fi
         record {
           few = omega (arith, so .few);
           some = omega arith;
-          sound = sym (ap (everyOn (bucketSoundIn file)) is ∙ every-past (bucketSoundIn file) (noted walk) (a ∷ []) (so .fine) ∙ every-one (bucketSoundIn file) a good);
-          met = noting ∙ sym (ap (cut (bucketSoundIn file)) is ∙ cut-past (bucketSoundIn file) (noted walk) (a ∷ []) (so .fine)
+          sound = sym
+              (ap (every (bucketSoundIn file)) is ∙ every-past (bucketSoundIn file) (noted walk) (a ∷ []) (so .fine)
+              ∙ every-next (bucketSoundIn file) a [] good ∙ every-none (bucketSoundIn file));
+          met = noting
+              ∙ sym (ap (cut (bucketSoundIn file)) is ∙ cut-past (bucketSoundIn file) (noted walk) (a ∷ []) (so .fine)
               ∙ ap (λ (l : List ℕ). noted walk ++ l) (cut-one (bucketSoundIn file) a));
           there = walking-exists;
           good = λ h. good;
@@ -168,11 +182,14 @@ module _ (file : List ℕ) (key : ℕ) (formed : Formed firstBuckets (stateOf fi
           whole = λ h. noting ∙ sym is;
         }
 
-    pub walk-sent : (b : ℕ) → bucketSoundIn file a ≡ true → (hash firstBuckets (level firstBuckets (stateOf file) a) key ≡ a → ⊥)
-        → onward firstBuckets a (level firstBuckets (stateOf file) a) key ≡ b → Walking file key way next b × (next .count ≤ 2)
+    pub walk-sent : (b : ℕ) → bucketSoundIn file a ≡ true
+        → (hash firstBuckets (level firstBuckets (stateOf file) a) key ≡ a → ⊥)
+        → onward firstBuckets a (level firstBuckets (stateOf file) a) key ≡ b
+        → Walking file key way next b × (next .count ≤ 2)
     walk-sent b good leaves e = go (so .left) (so .reached) (so .room) (so .few)
       where
-        go : (h : ℕ) → Reaches firstBuckets (stateOf file) key a h → h < so .most → walk .count + h ≤ 2 → Walking file key way next b × (next .count ≤ 2)
+        go : (h : ℕ) → Reaches firstBuckets (stateOf file) key a h → h < so .most → walk .count + h ≤ 2
+            → Walking file key way next b × (next .count ≤ 2)
         go h (kept exists keeps) room few = absurd (leaves keeps)
         go h (sent {b = c} {h = k} exists away to up rest) room few = (
           record {
@@ -182,20 +199,29 @@ module _ (file : List ℕ) (key : ℕ) (formed : Formed firstBuckets (stateOf fi
             room = omega arith;
             few = omega arith;
             whole = so .whole ∙ ap (λ (n : ℕ). noted walk ++ routeFrom firstBuckets (stateOf file) key n a) again
-                ∙ ap (λ (l : List ℕ). noted walk ++ l) (route-sent firstBuckets (stateOf file) key (so .most - 1) a leaves)
-                ∙ sym (append-assoc (noted walk) (a ∷ []) (routeFrom firstBuckets (stateOf file) key (so .most - 1) (onward firstBuckets a (level firstBuckets (stateOf file) a) key)))
-                ∙ ap₂ (λ (l : List ℕ) (x : ℕ). l ++ routeFrom firstBuckets (stateOf file) key (so .most - 1) x) (sym noting) e;
-            fine = ap (everyOn (bucketSoundIn file)) noting ∙ every-past (bucketSoundIn file) (noted walk) (a ∷ []) (so .fine) ∙ every-one (bucketSoundIn file) a good;
+                ∙ ap (λ (l : List ℕ). noted walk ++ l)
+                (route-sent firstBuckets (stateOf file) key (so .most - 1) a leaves)
+                ∙ sym
+                (append-assoc (noted walk) (a ∷ [])
+                (routeFrom firstBuckets (stateOf file) key (so .most - 1)
+                (onward firstBuckets a (level firstBuckets (stateOf file) a) key)))
+                ∙ ap₂ (λ (l : List ℕ) (x : ℕ). l ++ routeFrom firstBuckets (stateOf file) key (so .most - 1) x)
+                (sym noting) e;
+            fine = ap (every (bucketSoundIn file)) noting
+                ∙ every-past (bucketSoundIn file) (noted walk) (a ∷ []) (so .fine)
+                ∙ every-next (bucketSoundIn file) a [] good ∙ every-none (bucketSoundIn file);
           },
           omega arith,
         )
 
     -- by the fate that the key meets there
-    module _ (sound : Bool) (es : sound ≡ bucketSoundIn file a) (l : ℕ) (el : l ≡ level firstBuckets (stateOf file) a) where
+    module _ (sound : Bool) (es : sound ≡ bucketSoundIn file a) (l : ℕ)
+        (el : l ≡ level firstBuckets (stateOf file) a) where
       at-level : {x : ℕ} → hash firstBuckets l key ≡ x → hash firstBuckets (level firstBuckets (stateOf file) a) key ≡ x
       at-level e = ap (λ (k : ℕ). hash firstBuckets k key) (sym el) ∙ e
 
-      pub met-keep : fate firstBuckets sound a l key ≡ Keep → (bucketSoundIn file a ≡ true) × Walked file key way next a true
+      pub met-keep : fate firstBuckets sound a l key ≡ Keep
+          → (bucketSoundIn file a ≡ true) × Walked file key way next a true
       met-keep e =
           let (good, keeps) = fate-kept firstBuckets a l key sound e in
           (sym es ∙ good, walk-kept (sym es ∙ good) (at-level keeps))
@@ -203,7 +229,9 @@ module _ (file : List ℕ) (key : ℕ) (formed : Formed firstBuckets (stateOf fi
       pub met-unsound : fate firstBuckets sound a l key ≡ Unsound → Walked file key way next a false
       met-unsound e = walk-stopped (sym es ∙ fate-stopped firstBuckets a l key sound e)
 
-      pub met-send : (b : ℕ) → fate firstBuckets sound a l key ≡ SendOn b → Walking file key way next b × (next .count ≤ 2)
+      pub met-send : (b : ℕ) → fate firstBuckets sound a l key ≡ SendOn b
+          → Walking file key way next b × (next .count ≤ 2)
       met-send b e =
           let (good, leaves, to) = fate-sent firstBuckets a l key sound b e in
-          walk-sent b (sym es ∙ good) (λ h. leaves (ap (λ (k : ℕ). hash firstBuckets k key) el ∙ h)) (ap (λ (k : ℕ). onward firstBuckets a k key) (sym el) ∙ to)
+          walk-sent b (sym es ∙ good) (λ h. leaves (ap (λ (k : ℕ). hash firstBuckets k key) el ∙ h))
+          (ap (λ (k : ℕ). onward firstBuckets a k key) (sym el) ∙ to)

@@ -1,4 +1,5 @@
--- `scan::collect` refuses by the tally, 7 and then 12, and otherwise writes both lists: the keys that were noted are the matching ones.
+-- `scan::collect` refuses by the tally, 7 and then 12, and otherwise writes both lists: the keys that were noted are
+-- the matching ones.
 use borrow.Author.Needs.{needs}
 use Prim.Native.Nat.{ℕ, _≤_}
 use mathlib.Core.Path.{sym, ap, _∙_}
@@ -27,7 +28,9 @@ returns c =
     let a = c .before .before .before .before .before .before .before .before .before .before .before .before .args in
     let tally = c .before .before .before .before .before .judge-way in
     let bad = not-true _ (c .before .if1 .taken) in
-    collected-unsound (a .file .now) (a .lift) (a .way .now) (a .visits .now) (a .matches .now) (c .refused-scan .result) (tally .result .bucket) (c .refused-scan .ensures) (sym (tally .ensures .all) ∙ bad) (tally .ensures .first bad)
+    collected-unsound (a .file .now) (a .lift) (a .way .now) (a .visits .now) (a .matches .now)
+    (c .refused-scan .result) (tally .result .bucket) (c .refused-scan .ensures) (sym (tally .ensures .all) ∙ bad)
+    (tally .ensures .first bad)
 
 cast-if2 : tie.Need-cast-if2
 cast-if2 c = search needs
@@ -43,7 +46,9 @@ returns-2 c =
     let a = c .before .before .before .before .before .before .before .before .before .before .before .before .before .before .args in
     let tally = c .before .before .before .before .before .before .before .judge-way in
     let fine = not-false _ (c .before .before .before .if1 .left) in
-    collected-short (a .file .now) (a .lift) (a .way .now) (a .visits .now) (a .matches .now) (sym (tally .ensures .all) ∙ fine) (c .refused-scan2 .result) (c .refused-scan2 .ensures) (omega (arith, c .before .if2 .taken, tally .ensures .found fine))
+    collected-short (a .file .now) (a .lift) (a .way .now) (a .visits .now) (a .matches .now)
+    (sym (tally .ensures .all) ∙ fine) (c .refused-scan2 .result) (c .refused-scan2 .ensures)
+    (omega (arith, c .before .if2 .taken, tally .ensures .found fine))
 
 put-visits-requires : tie.Need-put-visits-requires
 put-visits-requires c κs = search needs
@@ -52,7 +57,8 @@ put-matches-requires : tie.Need-put-matches-requires
 put-matches-requires c κs =
     let d = c .before .before .before .before .before .before .before .before .before .before .before .before .before .before .before .before .before .before .before in
     let a = d .args in
-    let tally = c .before .before .before .before .before .before .before .before .before .before .before .before .judge-way in
+    let tally =
+    c .before .before .before .before .before .before .before .before .before .before .before .before .judge-way in
     let bits = tally .last .1 .1 .1 .1 .0 in
     let long : length (a .way .now) ≤ length bits = omega (arith, tally .kept, d .pre .2) in
     let fine = not-false _ (c .before .before .before .before .before .before .before .before .if1 .left) in (
@@ -60,7 +66,13 @@ put-matches-requires c κs =
       d .pre .1,
       sym (tally .ensures .all) ∙ fine,
       noted-fits (a .file .now) (a .lift) (a .way .now) bits long (tally .ensures .noted fine),
-      omega (arith, c .before .before .before .before .before .before .if2 .left, tally .ensures .found fine, ap length (noted-match (a .file .now) (a .lift) (a .way .now) bits long (tally .ensures .noted fine))),
+      omega (
+        arith,
+        c .before .before .before .before .before .before .if2 .left,
+        tally .ensures .found fine,
+        ap length
+            (noted-match (a .file .now) (a .lift) (a .way .now) bits long (tally .ensures .noted fine)),
+      ),
     )
 
 cast-t21 : tie.Need-cast-t21
@@ -82,11 +94,20 @@ returns-3 c =
     let tally = c .before .before .before .before .before .before .before .before .before .before .before .before .before .before .before .judge-way in
     let bits = tally .last .1 .1 .1 .1 .0 in
     let long : length (a .way .now) ≤ length bits = omega (arith, tally .kept, d .pre .2) in
-    let fine = not-false _ (c .before .before .before .before .before .before .before .before .before .before .before .if1 .left) in
+    let fine = not-false _
+    (c .before .before .before .before .before .before .before .before .before .before .before .if1 .left) in
     let visits = c .before .before .before .before .before .before .before .put-visits in
     let matches = c .before .before .put-matches in
-    collected-done (a .file .now) (a .lift) (a .way .now) (a .visits .now) (a .matches .now) (sym (tally .ensures .all) ∙ fine) (omega (arith, c .before .before .before .before .before .before .before .before .before .if2 .left, tally .ensures .found fine)) (tally .result .matches) (visits .last .1 .0) (matches .last .1 .1 .1 .1 .0) (tally .ensures .found fine) (visits .ensures)
-    (matches .ensures ∙ ap (λ (l : List ℕ). edit 0 l (a .matches .now)) (noted-match (a .file .now) (a .lift) (a .way .now) bits long (tally .ensures .noted fine)))
+    collected-done (a .file .now) (a .lift) (a .way .now) (a .visits .now) (a .matches .now)
+    (sym (tally .ensures .all) ∙ fine)
+    (omega (
+      arith,
+      c .before .before .before .before .before .before .before .before .before .if2 .left,
+      tally .ensures .found fine,
+    )) (tally .result .matches) (visits .last .1 .0) (matches .last .1 .1 .1 .1 .0)
+    (tally .ensures .found fine) (visits .ensures)
+    (matches .ensures ∙ ap (λ (l : List ℕ). edit 0 l (a .matches .now))
+    (noted-match (a .file .now) (a .lift) (a .way .now) bits long (tally .ensures .noted fine)))
 
 pub collect-spec : {M : Type 1} → statement M
 collect-spec =

@@ -1,4 +1,5 @@
--- `scan::put_bucket`: the selected keys before a slot are written; those that are left, written behind them, make the whole.
+-- `scan::put_bucket`: the selected keys before a slot are written; those that are left, written behind them, make the
+-- whole.
 use borrow.Author.Needs.{needs}
 use Prim.Native.Nat.{_+_, _-_, _<_}
 use mathlib.Core.Path.{_∙_}
@@ -14,10 +15,12 @@ use Rattle.scan.proofs.put_bucket.Statement.{statement}
 use Rattle.scan.proofs.put_bucket.Tie as tie
 
 abbrev Inv-loop : tie.InvT-loop
-Inv-loop file header bucket bits matches₀ from left₀ slot₀ filled₀ matches left slot filled = Filled (keysIn file bucket) bits from matches₀ left slot filled matches
+Inv-loop file header bucket bits matches₀ from left₀ slot₀ filled₀ matches left slot filled = Filled
+    (keysIn file bucket) bits from matches₀ left slot filled matches
 
 abbrev μ-loop : tie.MeasureT-loop
-μ-loop file header bucket bits matches₀ from left₀ slot₀ filled₀ matches left slot filled = length (keysIn file bucket) - slot
+μ-loop file header bucket bits matches₀ from left₀ slot₀ filled₀ matches left slot filled = length (keysIn file bucket)
+    - slot
 
 loop-holds : tie.Need-loop-holds Inv-loop μ-loop
 loop-holds c =
@@ -40,7 +43,8 @@ add-found c =
 key-in-requires : tie.Need-key-in-requires Inv-loop μ-loop
 key-in-requires c κs =
     let d = c .before .before .before .before in
-    let within = fill-within (c .before .loop .inv) (keys-few (d .pre .0) (d .args .bucket) (d .pre .2)) (c .loop-test .taken) in
+    let within = fill-within (c .before .loop .inv) (keys-few (d .pre .0) (d .args .bucket) (d .pre .2))
+    (c .loop-test .taken) in
     (d .pre .0, d .pre .1, d .pre .2, omega (arith, within, keys-in-count (d .args .file .now) (d .args .bucket)))
 
 mul-matches : tie.Need-mul-matches Inv-loop μ-loop
@@ -49,7 +53,8 @@ mul-matches c = search needs
 slice-write-matches : tie.Need-slice-write-matches Inv-loop μ-loop
 slice-write-matches c =
     let d = c .before .before .before .before .before in
-    fill-fits (c .before .before .loop .inv) (keys-few (d .pre .0) (d .args .bucket) (d .pre .2)) (c .before .loop-test .taken) (d .pre .4)
+    fill-fits (c .before .before .loop .inv) (keys-few (d .pre .0) (d .args .bucket) (d .pre .2))
+    (c .before .loop-test .taken) (d .pre .4)
 
 cast-left : tie.Need-cast-left Inv-loop μ-loop
 cast-left c =
@@ -67,7 +72,10 @@ add-slot : tie.Need-add-slot Inv-loop μ-loop
 add-slot c =
     let d = c .before .before .before .before .before in
     let short = keys-few (d .pre .0) (d .args .bucket) (d .pre .2) in
-    record { fits = omega (arith, short, fill-within (c .before .before .loop .inv) short (c .before .loop-test .taken)) }
+    record {
+      fits = omega
+          (arith, short, fill-within (c .before .before .loop .inv) short (c .before .loop-test .taken));
+    }
 
 add-filled : tie.Need-add-filled Inv-loop μ-loop
 add-filled c = search needs
@@ -75,7 +83,11 @@ add-filled c = search needs
 loop-less : tie.Need-loop-less Inv-loop μ-loop
 loop-less c =
     let d = c .before .before .before .before .before in
-    omega (arith, fill-within (c .before .before .loop .inv) (keys-few (d .pre .0) (d .args .bucket) (d .pre .2)) (c .before .loop-test .taken))
+    omega (
+      arith,
+      fill-within (c .before .before .loop .inv) (keys-few (d .pre .0) (d .args .bucket) (d .pre .2))
+          (c .before .loop-test .taken),
+    )
 
 loop-again : tie.Need-loop-again Inv-loop μ-loop
 loop-again c =
@@ -84,8 +96,11 @@ loop-again c =
     let l = c .before .before .loop in
     let some = c .before .loop-test .taken in
     let short = keys-few (d .pre .0) (a .bucket) (d .pre .2) in
-    let used : l .slot + trailingZeros 64 (l .left) < countOf (regionOf (a .file .now) (a .bucket)) = omega (arith, fill-within (l .inv) short some, keys-in-count (a .file .now) (a .bucket)) in
-    fill-more (l .inv) short some (d .pre .4) (c .key-in .result) (c .key-in .ensures ∙ key-of (a .file .now) (a .bucket) (l .slot + trailingZeros 64 (l .left)) used)
+    let used : l .slot + trailingZeros 64 (l .left)
+    < countOf (regionOf (a .file .now) (a .bucket)) = omega
+    (arith, fill-within (l .inv) short some, keys-in-count (a .file .now) (a .bucket)) in
+    fill-more (l .inv) short some (d .pre .4) (c .key-in .result)
+    (c .key-in .ensures ∙ key-of (a .file .now) (a .bucket) (l .slot + trailingZeros 64 (l .left)) used)
 
 same-length : tie.Need-same-length Inv-loop μ-loop
 same-length c = search needs

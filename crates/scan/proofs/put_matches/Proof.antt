@@ -1,4 +1,5 @@
--- `scan::put_matches`: the selected keys of the buckets that are left, written behind those that stand there, make the whole write.
+-- `scan::put_matches`: the selected keys of the buckets that are left, written behind those that stand there, make the
+-- whole write.
 use borrow.Author.Needs.{needs}
 use Prim.Native.Nat.{ℕ, _-_, _^_, _<_}
 use mathlib.Core.Path.{sym, subst}
@@ -46,7 +47,8 @@ put-bucket-requires c κs =
       d .pre .0,
       omega (arith, d .pre .1 .exist (l .k) more, n .ensures),
       write-sound (l .inv) (n .result) (n .ensures) more,
-      subst (λ (b : ℕ). getD (a .bits .now) (l .k) 0 < 2 ^ length (keysIn (a .file .now) b)) (sym (n .ensures)) (d .pre .3 .each (l .k) more),
+      subst (λ (b : ℕ). getD (a .bits .now) (l .k) 0 < 2 ^ length (keysIn (a .file .now) b)) (sym (n .ensures))
+          (d .pre .3 .each (l .k) more),
       write-room (l .inv) (n .result) (n .ensures) more (omega (arith, more, d .pre .3 .long)),
     )
 

@@ -2,8 +2,9 @@
 use mathlib.Core.Path.{sym, ap, _∙_}
 use native.Mathlib.Omega.{arith}
 use Rattle.scan.specs.Scan.{visitsOf}
-use Rattle.scan.specs.Scan.Replied.{answered, scan-early, scan-short, scan-long}
-use Rattle.scan.specs.Scan.Way.{ready, ready-buckets, ready-few}
+use Rattle.scan.specs.Scan.{leaving}
+use Rattle.scan.specs.Scan.Replied.{scan-early, scan-short, scan-long}
+use Rattle.scan.specs.Scan.Way.{starting, starting-buckets, starting-few}
 use borrow.Author.Needs.{needs}
 use Rattle.scan.proofs.scan.Statement.{statement}
 use Rattle.scan.proofs.scan.Tie as tie
@@ -21,10 +22,13 @@ returns : tie.Need-returns
 returns c =
     let a = c .before .before .before .before .before .before .before .before .before .args in
     let o = c .before .before .before .before .«open» in
-    scan-early (a .file .now) (a .table .now) (a .client) (a .lift) (a .visits .now) (a .matches .now) (c .refused-scan .result) (o .result .reply) (c .refused-scan .ensures) (o .ensures .0) (c .before .before .if1 .taken)
+    scan-early (a .file .now) (a .table .now) (a .client) (a .lift) (a .visits .now) (a .matches .now)
+    (c .refused-scan .result) (o .result .reply) (c .refused-scan .ensures) (o .ensures .0)
+    (c .before .before .if1 .taken)
 
 buckets-requires : tie.Need-buckets-requires
-buckets-requires c κs = c .before .before .before .before .«open» .ensures .1 (c .before .before .if1 .left) .known .room
+buckets-requires c κs = c .before .before .before .before .«open» .ensures .1
+    (c .before .before .if1 .left) .known .room
 
 cast-buckets : tie.Need-cast-buckets
 cast-buckets c = search needs
@@ -38,8 +42,9 @@ returns-2 c =
     let o = c .before .before .before .before .before .before .before .«open» in
     let none = c .before .before .before .before .before .if1 .left in
     let b = c .before .before .buckets in
-    scan-short (a .file .now) (a .table .now) (a .client) (a .lift) (a .visits .now) (a .matches .now) (sym (o .ensures .0) ∙ none) (c .refused-scan2 .result) (c .refused-scan2 .ensures)
-    (omega (arith, c .before .if2 .taken, ready-buckets (ready (o .ensures .1 none)) (b .result) (b .ensures)))
+    scan-short (a .file .now) (a .table .now) (a .client) (a .lift) (a .visits .now) (a .matches .now)
+    (sym (o .ensures .0) ∙ none) (c .refused-scan2 .result) (c .refused-scan2 .ensures)
+    (omega (arith, c .before .if2 .taken, starting-buckets (starting (o .ensures .1 none)) (b .result) (b .ensures)))
 
 slice-aggregate-follow : tie.Need-slice-aggregate-follow
 slice-aggregate-follow c = search needs
@@ -49,10 +54,18 @@ slice-aggregate-follow-2 c = search needs
 
 follow-requires : tie.Need-follow-requires
 follow-requires c κs =
-    let given = ready (c .before .before .before .before .before .before .before .before .before .before .before .«open» .ensures .1 (c .before .before .before .before .before .before .before .before .before .if1 .left)) in
+    let given = starting
+    (c .before .before .before .before .before .before .before .before .before .before .before .«open» .ensures .1
+    (c .before .before .before .before .before .before .before .before .before .if1 .left)) in
     let b = c .before .before .before .before .before .before .buckets in
-    let all = ready-buckets given (b .result) (b .ensures) in
-    (given, omega (arith, c .before .before .before .before .if3 .taken, all, ready-few given), omega (arith, c .before .before .before .before .if3 .taken, all, ready-few given), omega (arith, c .before .before .before .before .before .if2 .left, all))
+    let all = starting-buckets given (b .result) (b .ensures) in (
+      given,
+      omega (arith, c .before .before .before .before .if3 .taken, all, starting-few given),
+      omega
+          (arith, c .before .before .before .before .if3 .taken, all, starting-few given),
+      omega
+          (arith, c .before .before .before .before .before .if2 .left, all),
+    )
 
 same-length : tie.Need-same-length
 same-length c = search needs
@@ -67,9 +80,16 @@ returns-3 c =
     let none = c .before .before .before .before .before .before .before .before .before .before .before .before .before .before .before .before .if1 .left in
     let b = c .before .before .before .before .before .before .before .before .before .before .before .before .before .buckets in
     let f = c .before .before .before .before .before .before .follow in
-    scan-long (a .file .now) (a .table .now) (a .client) (a .lift) (a .visits .now) (a .matches .now) (sym (o .ensures .0) ∙ none)
-    (omega (arith, c .before .before .before .before .before .before .before .before .before .before .before .before .if2 .left, ready-buckets (ready (o .ensures .1 none)) (b .result) (b .ensures)))
-    (answered (f .result) (f .last .1 .1 .1 .1 .1 .1 .0) (f .last .1 .1 .1 .1 .1 .1 .1 .0)) (visitsOf (a .file .now) (o .result .image)) (f .ensures) (ap (visitsOf (a .file .now)) (o .ensures .1 none .is))
+    scan-long (a .file .now) (a .table .now) (a .client) (a .lift) (a .visits .now) (a .matches .now)
+    (sym (o .ensures .0) ∙ none)
+    (omega (
+      arith,
+      c .before .before .before .before .before .before .before .before .before .before .before .before .if2 .left,
+      starting-buckets (starting (o .ensures .1 none)) (b .result) (b .ensures),
+    ))
+    (leaving (f .result) (f .last .1 .1 .1 .1 .1 .1 .0) (f .last .1 .1 .1 .1 .1 .1 .1 .0))
+    (visitsOf (a .file .now) (o .result .image)) (f .ensures)
+    (ap (visitsOf (a .file .now)) (o .ensures .1 none .is))
 
 slice-aggregate-follow-3 : tie.Need-slice-aggregate-follow-3
 slice-aggregate-follow-3 c = search needs
@@ -79,10 +99,18 @@ slice-aggregate-follow-4 c = search needs
 
 follow-requires-2 : tie.Need-follow-requires-2
 follow-requires-2 c κs =
-    let given = ready (c .before .before .before .before .before .before .before .before .before .before .before .«open» .ensures .1 (c .before .before .before .before .before .before .before .before .before .if1 .left)) in
+    let given = starting
+    (c .before .before .before .before .before .before .before .before .before .before .before .«open» .ensures .1
+    (c .before .before .before .before .before .before .before .before .before .if1 .left)) in
     let b = c .before .before .before .before .before .before .buckets in
-    let all = ready-buckets given (b .result) (b .ensures) in
-    (given, omega (arith, c .before .before .before .before .if3 .left, all, ready-few given), omega (arith, c .before .before .before .before .if3 .left, all, ready-few given), omega (arith, c .before .before .before .before .before .if2 .left, all))
+    let all = starting-buckets given (b .result) (b .ensures) in (
+      given,
+      omega (arith, c .before .before .before .before .if3 .left, all, starting-few given),
+      omega
+          (arith, c .before .before .before .before .if3 .left, all, starting-few given),
+      omega
+          (arith, c .before .before .before .before .before .if2 .left, all),
+    )
 
 same-length-3 : tie.Need-same-length-3
 same-length-3 c = search needs
@@ -97,9 +125,16 @@ returns-4 c =
     let none = c .before .before .before .before .before .before .before .before .before .before .before .before .before .before .before .before .if1 .left in
     let b = c .before .before .before .before .before .before .before .before .before .before .before .before .before .buckets in
     let f = c .before .before .before .before .before .before .follow2 in
-    scan-long (a .file .now) (a .table .now) (a .client) (a .lift) (a .visits .now) (a .matches .now) (sym (o .ensures .0) ∙ none)
-    (omega (arith, c .before .before .before .before .before .before .before .before .before .before .before .before .if2 .left, ready-buckets (ready (o .ensures .1 none)) (b .result) (b .ensures)))
-    (answered (f .result) (f .last .1 .1 .1 .1 .1 .1 .0) (f .last .1 .1 .1 .1 .1 .1 .1 .0)) (visitsOf (a .file .now) (o .result .image)) (f .ensures) (ap (visitsOf (a .file .now)) (o .ensures .1 none .is))
+    scan-long (a .file .now) (a .table .now) (a .client) (a .lift) (a .visits .now) (a .matches .now)
+    (sym (o .ensures .0) ∙ none)
+    (omega (
+      arith,
+      c .before .before .before .before .before .before .before .before .before .before .before .before .if2 .left,
+      starting-buckets (starting (o .ensures .1 none)) (b .result) (b .ensures),
+    ))
+    (leaving (f .result) (f .last .1 .1 .1 .1 .1 .1 .0) (f .last .1 .1 .1 .1 .1 .1 .1 .0))
+    (visitsOf (a .file .now) (o .result .image)) (f .ensures)
+    (ap (visitsOf (a .file .now)) (o .ensures .1 none .is))
 
 pub scan-spec : {M : Type 1} → statement M
 scan-spec =

@@ -1,5 +1,5 @@
--- Which keys of a bucket match, as bits, the first key's the lowest. The keys that such bits select are the matching ones, as many as bits are set;
--- the trailing zeros of what is left of the bits tell the next of them.
+-- Which keys of a bucket match, as bits, the first key's the lowest. The keys that such bits select are the matching
+-- ones, as many as bits are set; the trailing zeros of what is left of the bits tell the next of them.
 use Prim.Native.Nat.{ℕ, zero, suc, _+_, _-_, _*_, _/_, _%_, _^_, _≤_, _<_}
 use mathlib.Core.Path.{_≡_, refl, sym, ap, ap₂, _∙_}
 use mathlib.Core.Bool.{Bool, true, false, cond}
@@ -12,6 +12,7 @@ use lib.Dec.{eqb}
 use lib.ListN.{length, getD, drop, set, length-drop}
 use lib.Seq.{getD-set-same, getD-set-other}
 use lib.Pow.{pow-mono}
+use Rattle.address.specs.Limits.{mostSlots}
 use Rattle.address.specs.Compare.{same}
 use Rattle.scan.specs.Scan.{ofLift, matching, keysIn, matchesOn}
 use Rattle.scan.specs.Scan.Way.{rest-first, rest-none}
@@ -44,10 +45,13 @@ high-bits false rest = omega arith
 pub select-match : (lift : ℕ) (keys : List ℕ) → selected (bitsOf lift keys) keys ≡ matching lift keys
 unfolding bitsOf selected matching
 select-match lift [] = refl
-select-match lift (key ∷ keys) = rw (low-bit (ofLift lift key) (bitsOf lift keys), high-bits (ofLift lift key) (bitsOf lift keys)) (go (ofLift lift key) (select-match lift keys))
+select-match lift (key ∷ keys) = rw
+    (low-bit (ofLift lift key) (bitsOf lift keys), high-bits (ofLift lift key) (bitsOf lift keys))
+    (go (ofLift lift key) (select-match lift keys))
   where
     go : (b : Bool) → selected (bitsOf lift keys) keys ≡ matching lift keys
-        → cond (eqb (cond b 1 0) 1) (key ∷ selected (bitsOf lift keys) keys) (selected (bitsOf lift keys) keys) ≡ cond b (key ∷ matching lift keys) (matching lift keys)
+        → cond (eqb (cond b 1 0) 1) (key ∷ selected (bitsOf lift keys) keys) (selected (bitsOf lift keys) keys)
+        ≡ cond b (key ∷ matching lift keys) (matching lift keys)
     go true rest = ap (λ (l : List ℕ). key ∷ l) rest
     go false rest = rest
 
@@ -69,7 +73,8 @@ pub bits-count : (lift : ℕ) (keys : List ℕ) → ones (bitsOf lift keys) ≡ 
 unfolding bitsOf matching
 bits-count lift [] = ones-none
 bits-count lift (key ∷ keys) = ones-step (cond (ofLift lift key) 1 0 + 2 * bitsOf lift keys)
-    ∙ rw (low-bit (ofLift lift key) (bitsOf lift keys), high-bits (ofLift lift key) (bitsOf lift keys)) (go (ofLift lift key) (bits-count lift keys))
+    ∙ rw (low-bit (ofLift lift key) (bitsOf lift keys), high-bits (ofLift lift key) (bitsOf lift keys))
+    (go (ofLift lift key) (bits-count lift keys))
   where
     go : (b : Bool) → ones (bitsOf lift keys) ≡ length (matching lift keys)
         → cond b 1 0 + ones (bitsOf lift keys) ≡ length (cond b (key ∷ matching lift keys) (matching lift keys))
@@ -87,11 +92,15 @@ unfolding bitsOf
 test-none lift keys k e = record { within = omega arith; is = sym (ap (bitsOf lift) (rest-none keys k (omega arith))) }
 
 module _ {lift : ℕ} {keys : List ℕ} {k bits : ℕ} (so : Tested lift keys k bits) where
-  pub test-more : (k ≡ 0 → ⊥) → (bit : ℕ) → bit ≡ cond (ofLift lift (getD keys (k - 1) 0)) 1 0 → Tested lift keys (k - 1) (bits * 2 + bit)
+  pub test-more : (k ≡ 0 → ⊥) → (bit : ℕ) → bit ≡ cond (ofLift lift (getD keys (k - 1) 0)) 1 0
+      → Tested lift keys (k - 1) (bits * 2 + bit)
   unfolding bitsOf
   test-more some bit e = record {
     within = omega (arith, so .within);
-    is = sym (ap (bitsOf lift) (rest-first keys (k - 1) (omega (arith, so .within)) ∙ ap (λ (n : ℕ). getD keys (k - 1) 0 ∷ drop n keys) back) ∙ sum);
+    is = sym
+        (ap (bitsOf lift)
+        (rest-first keys (k - 1) (omega (arith, so .within)) ∙ ap (λ (n : ℕ). getD keys (k - 1) 0 ∷ drop n keys) back)
+        ∙ sum);
   }
     where
       back : k - 1 + 1 ≡ k
@@ -100,7 +109,7 @@ module _ {lift : ℕ} {keys : List ℕ} {k bits : ℕ} (so : Tested lift keys k 
       sum : cond (ofLift lift (getD keys (k - 1) 0)) 1 0 + 2 * bitsOf lift (drop k keys) ≡ bits * 2 + bit
       sum = omega (arith, so .is, e)
 
-  pub test-room : (k ≡ 0 → ⊥) → length keys ≤ 64 → bits < 9223372036854775808
+  pub test-room : (k ≡ 0 → ⊥) → length keys ≤ mostSlots → bits < 9223372036854775808
   test-room some short = omega (arith, so .is, bits-few lift (drop k keys), pow-mono few)
     where
       few : length (drop k keys) ≤ 63
@@ -118,20 +127,24 @@ pub record Next (bits : ℕ) (keys : List ℕ) (zeros : ℕ) : Type 0 where
   pub is : selected bits keys ≡ getD keys zeros 0 ∷ selected (bits / 2 ^ zeros / 2) (drop (suc zeros) keys)
   pub few : bits / 2 ^ zeros / 2 < 2 ^ length (drop (suc zeros) keys)
 
-pub next : (d bits : ℕ) (keys : List ℕ) → length keys ≤ d → (bits ≡ 0 → ⊥) → bits < 2 ^ length keys → Next bits keys (trailingZeros d bits)
+pub next : (d bits : ℕ) (keys : List ℕ) → length keys ≤ d → (bits ≡ 0 → ⊥) → bits < 2 ^ length keys
+    → Next bits keys (trailingZeros d bits)
 unfolding trailingZeros selected
 next d bits [] short some few = absurd (some (omega arith))
 next zero bits (key ∷ keys) short some few = absurd (omega arith)
-next (suc d) bits (key ∷ keys) short some few = go (bits % 2) refl (λ even. next d (bits / 2) keys (omega arith) (λ none. some (omega arith)) half)
+next (suc d) bits (key ∷ keys) short some few = go (bits % 2) refl
+    (λ even. next d (bits / 2) keys (omega arith) (λ none. some (omega arith)) half)
   where
     half : bits / 2 < 2 ^ length keys
     half = omega (arith, pow-suc 2 (length keys))
 
-    go : (r : ℕ) → bits % 2 ≡ r → (bits % 2 ≡ 0 → Next (bits / 2) keys (trailingZeros d (bits / 2))) → Next bits (key ∷ keys) (under r (trailingZeros d (bits / 2)))
+    go : (r : ℕ) → bits % 2 ≡ r → (bits % 2 ≡ 0 → Next (bits / 2) keys (trailingZeros d (bits / 2)))
+        → Next bits (key ∷ keys) (under r (trailingZeros d (bits / 2)))
     go zero e later =
         let t = trailingZeros d (bits / 2) in
         let n = later e in
-        let shift : bits / 2 ^ suc t ≡ bits / 2 / 2 ^ t = ap (λ (x : ℕ). bits / x) (pow-succ' 2 t) ∙ sym (div-div-eq-div-mul bits 2 (2 ^ t)) in
+        let shift : bits / 2 ^ suc t ≡ bits / 2 / 2 ^ t = ap (λ (x : ℕ). bits / x) (pow-succ' 2 t)
+        ∙ sym (div-div-eq-div-mul bits 2 (2 ^ t)) in
         record {
           within = omega (arith, n .within);
           is = rw (e, shift) (n .is);
@@ -146,7 +159,8 @@ pub selected-none : (file bits : List ℕ) → selectedOn file [] bits ≡ []
 unfolding selectedOn
 selected-none file bits = refl
 
-pub selected-first : (file : List ℕ) (a : ℕ) (way : List ℕ) (b : ℕ) (bits : List ℕ) → selectedOn file (a ∷ way) (b ∷ bits) ≡ selected b (keysIn file a) ++ selectedOn file way bits
+pub selected-first : (file : List ℕ) (a : ℕ) (way : List ℕ) (b : ℕ) (bits : List ℕ)
+    → selectedOn file (a ∷ way) (b ∷ bits) ≡ selected b (keysIn file a) ++ selectedOn file way bits
 unfolding selectedOn
 selected-first file a way b bits = refl
 
@@ -157,13 +171,16 @@ Noted file lift way bits k = (i : ℕ) → i < k → getD bits i 0 ≡ bitsOf li
 pub note-more : (file : List ℕ) (lift : ℕ) (way bits : List ℕ) (k : ℕ) → Noted file lift way bits k → k < length bits
     → (b : ℕ) → b ≡ bitsOf lift (keysIn file (getD way k 0)) → Noted file lift way (set bits k b) (k + 1)
 note-more file lift way bits k so fits b e i h = ⊎-elim
-    (λ f. ap (λ (n : ℕ). getD (set bits k b) n 0) f ∙ getD-set-same bits k b 0 fits ∙ e ∙ ap (λ (n : ℕ). bitsOf lift (keysIn file (getD way n 0))) (sym f))
+    (λ f. ap (λ (n : ℕ). getD (set bits k b) n 0) f ∙ getD-set-same bits k b 0 fits ∙ e
+    ∙ ap (λ (n : ℕ). bitsOf lift (keysIn file (getD way n 0))) (sym f))
     (λ f. getD-set-other bits k i b 0 f ∙ so i (omega arith))
     (same i k)
 
-pub noted-match : (file : List ℕ) (lift : ℕ) (way bits : List ℕ) → length way ≤ length bits → Noted file lift way bits (length way) → selectedOn file way bits ≡ matchesOn file lift way
+pub noted-match : (file : List ℕ) (lift : ℕ) (way bits : List ℕ) → length way ≤ length bits
+    → Noted file lift way bits (length way) → selectedOn file way bits ≡ matchesOn file lift way
 unfolding selectedOn matchesOn
 noted-match file lift [] bits long so = refl
 noted-match file lift (a ∷ way) [] long so = absurd (omega arith)
 noted-match file lift (a ∷ way) (b ∷ bits) long so =
-    ap₂ _++_ (ap (λ (n : ℕ). selected n (keysIn file a)) (so 0 (omega arith)) ∙ select-match lift (keysIn file a)) (noted-match file lift way bits (omega arith) (λ i h. so (suc i) (omega arith)))
+    ap₂ _++_ (ap (λ (n : ℕ). selected n (keysIn file a)) (so 0 (omega arith)) ∙ select-match lift (keysIn file a))
+    (noted-match file lift way bits (omega arith) (λ i h. so (suc i) (omega arith)))

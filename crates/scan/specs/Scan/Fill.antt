@@ -1,4 +1,5 @@
--- Writing visits and matches: what is left to write, written over the list as it is now, gives the list that the whole write leaves.
+-- Writing visits and matches: what is left to write, written over the list as it is now, gives the list that the whole
+-- write leaves.
 use Prim.Native.Nat.{ℕ, suc, _+_, _/_, _^_, _≤_, _<_}
 use mathlib.Core.Path.{_≡_, refl, sym, ap, ap₂, subst, _∙_}
 use mathlib.Core.Bool.{true}
@@ -7,13 +8,16 @@ use native.Mathlib.Omega.{arith}
 use lib.Count.{trailingZeros}
 use lib.ListN.{length, getD, drop, set, length-append, length-set, length-drop}
 use lib.Seq.{getD-drop, drop-drop}
+use Rattle.address.specs.Limits.{mostSlots}
 use Rattle.layout.specs.Bytes.{edit}
 use Rattle.layout.specs.Bytes.Edit.{edit-next, edit-nothing, edit-first, length-edit}
+use Rattle.bucket.specs.Region.Every.{every-first, every-next}
 use Rattle.file.specs.File.{bucketSoundIn}
-use Rattle.route.specs.Way.{everyOn}
+use Rattle.bucket.specs.Region.{every}
 use Rattle.scan.specs.Scan.{keysIn}
-use Rattle.scan.specs.Scan.Bits.{bits-few, Noted, selected, selectedOn, select-none, selected-none, selected-first, Next, next}
-use Rattle.scan.specs.Scan.Way.{rest-first, rest-none, every-first, every-next}
+use Rattle.scan.specs.Scan.Bits.{bits-few, Noted, selected, selectedOn, select-none, selected-none}
+use Rattle.scan.specs.Scan.Bits.{selected-first, Next, next}
+use Rattle.scan.specs.Scan.Way.{rest-first, rest-none}
 
 -- ---- the visits
 
@@ -46,17 +50,23 @@ pub record Filled (keys : List ℕ) (bits from : ℕ) (old : List ℕ) (left slo
   pub count : filled + length (selected left (drop slot keys)) ≡ from + length (selected bits keys)
   pub is : edit filled (selected left (drop slot keys)) now ≡ edit from (selected bits keys) old
 
-pub fill-none : (keys : List ℕ) (bits from : ℕ) (old : List ℕ) → bits < 2 ^ length keys → Filled keys bits from old bits 0 from old
+pub fill-none : (keys : List ℕ) (bits from : ℕ) (old : List ℕ) → bits < 2 ^ length keys
+    → Filled keys bits from old bits 0 from old
 fill-none keys bits from old few = record { within = omega arith; few = few; full = refl; count = refl; is = refl }
 
-module _ {keys : List ℕ} {bits from : ℕ} {old : List ℕ} {left slot filled : ℕ} {now : List ℕ} (so : Filled keys bits from old left slot filled now) where
+module _ {keys : List ℕ} {bits from : ℕ} {old : List ℕ} {left slot filled : ℕ} {now : List ℕ}
+    (so : Filled keys bits from old left slot filled now) where
   pub fill-done : left ≡ 0 → (filled ≡ from + length (selected bits keys)) × (now ≡ edit from (selected bits keys) old)
-  fill-done end = (omega (arith, so .count, ap length nothing), sym (ap (λ (l : List ℕ). edit filled l now) nothing ∙ edit-nothing filled now) ∙ so .is)
+  fill-done end = (
+    omega (arith, so .count, ap length nothing),
+    sym
+        (ap (λ (l : List ℕ). edit filled l now) nothing ∙ edit-nothing filled now) ∙ so .is,
+  )
     where
       nothing : selected left (drop slot keys) ≡ []
       nothing = ap (λ (b : ℕ). selected b (drop slot keys)) end ∙ select-none (drop slot keys)
 
-  module _ (short : length keys ≤ 64) (some : left ≡ 0 → ⊥) where
+  module _ (short : length keys ≤ mostSlots) (some : left ≡ 0 → ⊥) where
     abbrev zeros : ℕ
     zeros = trailingZeros 64 left
 
@@ -72,22 +82,28 @@ module _ {keys : List ℕ} {bits from : ℕ} {old : List ℕ} {left slot filled 
         place : slot + suc zeros ≡ slot + zeros + 1
         place = omega arith
 
-    left-in : selected left (drop slot keys) ≡ getD keys (slot + zeros) 0 ∷ selected (left / 2 ^ zeros / 2) (drop (slot + zeros + 1) keys)
-    left-in = onward .is ∙ ap₂ (λ (x : ℕ) (l : List ℕ). x ∷ selected (left / 2 ^ zeros / 2) l) (getD-drop slot keys zeros 0) rest
+    left-in : selected left (drop slot keys)
+        ≡ getD keys (slot + zeros) 0 ∷ selected (left / 2 ^ zeros / 2) (drop (slot + zeros + 1) keys)
+    left-in = onward .is ∙ ap₂ (λ (x : ℕ) (l : List ℕ). x ∷ selected (left / 2 ^ zeros / 2) l)
+        (getD-drop slot keys zeros 0) rest
 
     module _ (room : from + length (selected bits keys) ≤ length old) where
       pub fill-fits : filled < length now
       fill-fits = omega (arith, so .count, so .full, ap length left-in)
 
       pub fill-more : (key : ℕ) → key ≡ getD keys (slot + trailingZeros 64 left) 0
-          → Filled keys bits from old (left / 2 ^ trailingZeros 64 left / 2) (slot + trailingZeros 64 left + 1) (filled + 1) (set now filled key)
+          → Filled keys bits from old (left / 2 ^ trailingZeros 64 left / 2) (slot + trailingZeros 64 left + 1)
+          (filled + 1) (set now filled key)
       fill-more key here = record {
         within = omega (arith, fill-within);
         few = subst (λ (l : List ℕ). left / 2 ^ zeros / 2 < 2 ^ length l) rest (onward .few);
         full = length-set now filled key ∙ so .full;
         count = omega (arith, so .count, ap length left-in);
-        is = edit-first filled key (selected (left / 2 ^ zeros / 2) (drop (slot + zeros + 1) keys)) now (omega (arith, so .count, so .full, ap length left-in))
-            ∙ ap (λ (l : List ℕ). edit filled l now) (ap (λ (x : ℕ). x ∷ selected (left / 2 ^ zeros / 2) (drop (slot + zeros + 1) keys)) here ∙ sym left-in) ∙ so .is;
+        is = edit-first filled key (selected (left / 2 ^ zeros / 2) (drop (slot + zeros + 1) keys)) now
+            (omega (arith, so .count, so .full, ap length left-in))
+            ∙ ap (λ (l : List ℕ). edit filled l now)
+            (ap (λ (x : ℕ). x ∷ selected (left / 2 ^ zeros / 2) (drop (slot + zeros + 1) keys)) here ∙ sym left-in)
+            ∙ so .is;
       }
 
 -- ---- the selected keys of a way
@@ -97,30 +113,38 @@ pub record Fitting (file way bits : List ℕ) : Type 0 where
   pub long : length way ≤ length bits
   pub each : (k : ℕ) → k < length way → getD bits k 0 < 2 ^ length (keysIn file (getD way k 0))
 
-pub noted-fits : (file : List ℕ) (lift : ℕ) (way bits : List ℕ) → length way ≤ length bits → Noted file lift way bits (length way) → Fitting file way bits
-noted-fits file lift way bits long so = record { long = long; each = λ k h. rw (so k h) (bits-few lift (keysIn file (getD way k 0))) }
+pub noted-fits : (file : List ℕ) (lift : ℕ) (way bits : List ℕ) → length way ≤ length bits
+    → Noted file lift way bits (length way) → Fitting file way bits
+noted-fits file lift way bits long so =
+    record { long = long; each = λ k h. rw (so k h) (bits-few lift (keysIn file (getD way k 0))) }
 
 pub record Written (file way bits old : List ℕ) (k filled : ℕ) (now : List ℕ) : Type 0 where
   pub within : k ≤ length way
   pub full : length now ≡ length old
-  pub sound : everyOn (bucketSoundIn file) (drop k way) ≡ true
+  pub sound : every (bucketSoundIn file) (drop k way) ≡ true
   pub room : filled + length (selectedOn file (drop k way) (drop k bits)) ≤ length now
   pub is : edit filled (selectedOn file (drop k way) (drop k bits)) now ≡ edit 0 (selectedOn file way bits) old
 
-pub write-none : (file way bits old : List ℕ) → everyOn (bucketSoundIn file) way ≡ true → length (selectedOn file way bits) ≤ length old
+pub write-none : (file way bits old : List ℕ) → every (bucketSoundIn file) way ≡ true
+    → length (selectedOn file way bits) ≤ length old
     → Written file way bits old 0 0 old
-write-none file way bits old sound room = record { within = omega arith; full = refl; sound = sound; room = omega arith; is = refl }
+write-none file way bits old sound room =
+    record { within = omega arith; full = refl; sound = sound; room = omega arith; is = refl }
 
 module _ {file way bits old : List ℕ} {k filled : ℕ} {now : List ℕ} (so : Written file way bits old k filled now) where
   pub write-done : length way ≤ k → now ≡ edit 0 (selectedOn file way bits) old
-  write-done end = sym (ap (λ (l : List ℕ). edit filled l now) (ap (λ (l : List ℕ). selectedOn file l (drop k bits)) (rest-none way k end) ∙ selected-none file (drop k bits)) ∙ edit-nothing filled now) ∙ so .is
+  write-done end = sym
+      (ap (λ (l : List ℕ). edit filled l now)
+      (ap (λ (l : List ℕ). selectedOn file l (drop k bits)) (rest-none way k end) ∙ selected-none file (drop k bits))
+      ∙ edit-nothing filled now) ∙ so .is
 
   module _ (a : ℕ) (here : a ≡ getD way k 0) (more : k < length way) where
     onto : drop k way ≡ a ∷ drop (k + 1) way
     onto = rest-first way k more ∙ ap (λ (b : ℕ). b ∷ drop (k + 1) way) (sym here)
 
     pub write-sound : bucketSoundIn file a ≡ true
-    write-sound = every-first (bucketSoundIn file) a (drop (k + 1) way) (ap (everyOn (bucketSoundIn file)) (sym onto) ∙ so .sound)
+    write-sound = every-first (bucketSoundIn file) a (drop (k + 1) way)
+        (ap (every (bucketSoundIn file)) (sym onto) ∙ so .sound)
 
     module _ (long : k < length bits) where
       abbrev mine : List ℕ
@@ -130,7 +154,8 @@ module _ {file way bits old : List ℕ} {k filled : ℕ} {now : List ℕ} (so : 
       others = selectedOn file (drop (k + 1) way) (drop (k + 1) bits)
 
       both : selectedOn file (drop k way) (drop k bits) ≡ mine ++ others
-      both = ap₂ (selectedOn file) onto (rest-first bits k long) ∙ selected-first file a (drop (k + 1) way) (getD bits k 0) (drop (k + 1) bits)
+      both = ap₂ (selectedOn file) onto (rest-first bits k long)
+          ∙ selected-first file a (drop (k + 1) way) (getD bits k 0) (drop (k + 1) bits)
 
       lengths : length (selectedOn file (drop k way) (drop k bits)) ≡ length mine + length others
       lengths = ap length both ∙ length-append mine others
@@ -138,12 +163,14 @@ module _ {file way bits old : List ℕ} {k filled : ℕ} {now : List ℕ} (so : 
       pub write-room : filled + length (selected (getD bits k 0) (keysIn file a)) ≤ length now
       write-room = omega (arith, so .room, lengths)
 
-      pub write-more : (f : ℕ) (then : List ℕ) → f ≡ filled + length (selected (getD bits k 0) (keysIn file a)) → then ≡ edit filled (selected (getD bits k 0) (keysIn file a)) now
+      pub write-more : (f : ℕ) (then : List ℕ) → f ≡ filled + length (selected (getD bits k 0) (keysIn file a))
+          → then ≡ edit filled (selected (getD bits k 0) (keysIn file a)) now
           → Written file way bits old (k + 1) f then
       write-more f then ef et = record {
         within = omega arith;
         full = kept ∙ so .full;
-        sound = sym (every-next (bucketSoundIn file) a (drop (k + 1) way) write-sound) ∙ ap (everyOn (bucketSoundIn file)) (sym onto) ∙ so .sound;
+        sound = sym (every-next (bucketSoundIn file) a (drop (k + 1) way) write-sound)
+            ∙ ap (every (bucketSoundIn file)) (sym onto) ∙ so .sound;
         room = omega (arith, so .room, lengths, kept);
         is = ap₂ (λ (n : ℕ) (l : List ℕ). edit n others l) ef et
             ∙ edit-next filled mine others now (omega (arith, so .room, lengths))

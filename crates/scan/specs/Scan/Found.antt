@@ -1,5 +1,6 @@
 -- How often a key stands among the matches of a way: a key of the lift as often as in its own bucket, any other never.
--- A sound bucket holds only keys that have it as their address, so a key stands in its own bucket alone, which the way visits once.
+-- A sound bucket holds only keys that have it as their address, so a key stands in its own bucket alone, which the way
+-- visits once.
 use Prim.Native.Nat.{ℕ, _+_, _≤_, _<_}
 use mathlib.Core.Path.{_≡_, refl, sym, ap, _∙_}
 use mathlib.Core.Bool.{Bool, true, false, cond, not, true≢false}
@@ -12,16 +13,17 @@ use Rattle.address.specs.Compare.{below, same}
 use Rattle.address.specs.Limits.{firstBuckets}
 use Rattle.address.specs.Rules.{address}
 use Rattle.address.specs.Rules.Scan.{times, times-none, times-here, times-there}
-use Rattle.bucket.specs.Region.{countOf, ridesOf, keysOf, slotOf}
+use Rattle.bucket.specs.Region.{countOf, ridesOf, keysOf, slotOf, every}
 use Rattle.bucket.specs.Region.Keep.{keys-at, slot-holds, slot-most, fresh}
-use Rattle.bucket.specs.Region.Rides.{every-times, distinct-times}
+use Rattle.bucket.specs.Region.Rides.{distinct-times}
+use Rattle.bucket.specs.Region.Every.{every-times, every-first, every-next}
 use Rattle.file.specs.File.{stateOf, regionOf, bucketSoundIn}
 use Rattle.file.specs.File.Write.{bucket-shown}
-use Rattle.route.specs.Way.{everyOn, held}
+use Rattle.route.specs.Way.{held}
 use Rattle.route.specs.Way.Own.{held-is, own-is}
 use Rattle.scan.specs.Scan.{ofLift, matching, keysIn, matchesOn}
 use Rattle.scan.specs.Scan.Tally.{match-in, match-out, match-none, matches-first, matches-none, keys-in-count}
-use Rattle.scan.specs.Scan.Way.{times-at, every-first, every-next}
+use Rattle.scan.specs.Scan.Way.{times-at}
 
 -- ---- how often a key stands among the matches
 
@@ -32,11 +34,13 @@ times-append x (y ∷ xs) ys = ⊎-elim
     (λ e. omega (arith, times-there x y (xs ++ ys) e, times-there x y xs e, times-append x xs ys))
     (same x y)
 
-match-times : (lift key : ℕ) → ofLift lift key ≡ true → (keys : List ℕ) → times key (matching lift keys) ≡ times key keys
+match-times : (lift key : ℕ) → ofLift lift key ≡ true → (keys : List ℕ)
+    → times key (matching lift keys) ≡ times key keys
 match-times lift key match [] = ap (times key) (match-none lift)
 match-times lift key match (x ∷ keys) = go (ofLift lift x) refl (match-times lift key match keys)
   where
-    go : (b : Bool) → ofLift lift x ≡ b → times key (matching lift keys) ≡ times key keys → times key (matching lift (x ∷ keys)) ≡ times key (x ∷ keys)
+    go : (b : Bool) → ofLift lift x ≡ b → times key (matching lift keys) ≡ times key keys
+        → times key (matching lift (x ∷ keys)) ≡ times key (x ∷ keys)
     go true e rest = ap (times key) (match-in lift x keys e) ∙ ⊎-elim
         (λ h. omega (arith, times-here key x (matching lift keys) h, times-here key x keys h, rest))
         (λ h. omega (arith, times-there key x (matching lift keys) h, times-there key x keys h, rest))
@@ -49,7 +53,8 @@ match-other lift key other [] = ap (times key) (match-none lift) ∙ times-none 
 match-other lift key other (x ∷ keys) = go (ofLift lift x) refl (match-other lift key other keys)
   where
     go : (b : Bool) → ofLift lift x ≡ b → times key (matching lift keys) ≡ 0 → times key (matching lift (x ∷ keys)) ≡ 0
-    go true e rest = ap (times key) (match-in lift x keys e) ∙ times-there key x (matching lift keys) (λ h. true≢false (sym e ∙ ap (ofLift lift) (sym h) ∙ other)) ∙ rest
+    go true e rest = ap (times key) (match-in lift x keys e)
+        ∙ times-there key x (matching lift keys) (λ h. true≢false (sym e ∙ ap (ofLift lift) (sym h) ∙ other)) ∙ rest
     go false e rest = ap (times key) (match-out lift x keys e) ∙ rest
 
 -- ---- a key in the buckets of a way
@@ -61,7 +66,8 @@ module _ (file : List ℕ) (key : ℕ) where
   -- a sound bucket that is not the key's own does not hold it, and its own holds it once at the most
   pub elsewhere : (a : ℕ) → bucketSoundIn file a ≡ true → (own ≡ a → ⊥) → times key (keysIn file a) ≡ 0
   unfolding keysIn
-  elsewhere a sound other = every-times (λ k. eqb (address firstBuckets (stateOf file) k) a) (keysOf (ridesOf (regionOf file a))) key (bucket-shown file a sound .belong) (ne-eqb own a other)
+  elsewhere a sound other = every-times (λ k. eqb (address firstBuckets (stateOf file) k) a)
+      (keysOf (ridesOf (regionOf file a))) key (bucket-shown file a sound .belong) (ne-eqb own a other)
 
   pub once : (a : ℕ) → bucketSoundIn file a ≡ true → times key (keysIn file a) ≤ 1
   unfolding keysIn
@@ -89,12 +95,14 @@ module _ (file : List ℕ) (key : ℕ) where
         arith,
         once own sound,
         times-at (keysIn file own) slot (omega (arith, h, keys-in-count file own)),
-        ap (λ (k : ℕ). times k (keysIn file own)) (keys-at (regionOf file own) slot h ∙ slot-holds (regionOf file own) key h),
+        ap (λ (k : ℕ). times k (keysIn file own))
+            (keys-at (regionOf file own) slot h ∙ slot-holds (regionOf file own) key h),
       )
 
       absent : count ≤ slot → times key (keysOf (ridesOf (regionOf file own))) ≡ 0
       absent h = every-times (λ other. not (eqb other key)) (keysOf (ridesOf (regionOf file own))) key
-          (fresh (regionOf file own) key (omega (arith, h, slot-most (regionOf file own) key))) (ap not (eq-eqb key key refl))
+          (fresh (regionOf file own) key (omega (arith, h, slot-most (regionOf file own) key)))
+          (ap not (eq-eqb key key refl))
 
   module _ (lift : ℕ) where
     pub other-times : ofLift lift key ≡ false → (way : List ℕ) → times key (matchesOn file lift way) ≡ 0
@@ -108,7 +116,8 @@ module _ (file : List ℕ) (key : ℕ) where
     )
 
     module _ (match : ofLift lift key ≡ true) where
-      first-times : (a : ℕ) (way : List ℕ) → times key (matchesOn file lift (a ∷ way)) ≡ times key (keysIn file a) + times key (matchesOn file lift way)
+      first-times : (a : ℕ) (way : List ℕ)
+          → times key (matchesOn file lift (a ∷ way)) ≡ times key (keysIn file a) + times key (matchesOn file lift way)
       first-times a way = omega (
         arith,
         ap (times key) (matches-first file lift a way),
@@ -116,7 +125,8 @@ module _ (file : List ℕ) (key : ℕ) where
         match-times lift key match (keysIn file a),
       )
 
-      unvisited : (way : List ℕ) → everyOn (bucketSoundIn file) way ≡ true → times own way ≡ 0 → times key (matchesOn file lift way) ≡ 0
+      unvisited : (way : List ℕ) → every (bucketSoundIn file) way ≡ true → times own way ≡ 0
+          → times key (matchesOn file lift way) ≡ 0
       unvisited [] fine none = ap (times key) (matches-none file lift) ∙ times-none key
       unvisited (a ∷ way) fine none =
           let sound = every-first (bucketSoundIn file) a way fine in
@@ -126,11 +136,13 @@ module _ (file : List ℕ) (key : ℕ) where
             arith,
             first-times a way,
             elsewhere a sound e,
-            unvisited way (sym (every-next (bucketSoundIn file) a way sound) ∙ fine) (sym (times-there own a way e) ∙ none),
+            unvisited way (sym (every-next (bucketSoundIn file) a way sound) ∙ fine)
+                (sym (times-there own a way e) ∙ none),
           ))
           (same own a)
 
-      pub visited : (way : List ℕ) → everyOn (bucketSoundIn file) way ≡ true → times own way ≡ 1 → times key (matchesOn file lift way) ≡ times key (keysIn file own)
+      pub visited : (way : List ℕ) → every (bucketSoundIn file) way ≡ true → times own way ≡ 1
+          → times key (matchesOn file lift way) ≡ times key (keysIn file own)
       visited [] fine one = absurd (omega (arith, times-none own))
       visited (a ∷ way) fine one =
           let sound = every-first (bucketSoundIn file) a way fine in

@@ -9,71 +9,84 @@ use lib.ListN.{length}
 use Rattle.address.specs.Limits.{noBucket}
 use Rattle.layout.specs.Bytes.{edit}
 use Rattle.layout.specs.Replies.{refuse, reply, reply-none, reply-here, reply-past, reply-append}
+use Rattle.bucket.specs.Region.{every}
 use Rattle.client.specs.Table.{imageOf}
 use Rattle.file.specs.File.{bucketsOf, bucketSoundIn}
-use Rattle.route.specs.Way.{early, everyOn}
+use Rattle.route.specs.Way.{early}
 use Rattle.route.specs.Way.Open.{early-else}
 use Rattle.scan.specs.declared.ScanAnswer.{ScanAnswer}
-use Rattle.scan.specs.Scan.{Scanned, matchesOn, visitsOf, firstUnsound, refused, collected, scan}
-
--- what a call answers, with the lists as it leaves them
-abbrev pub answered : ScanAnswer → List ℕ → List ℕ → Scanned
-answered r visits matches =
-    record { answer = r .reply; bucket = r .bucket; visits = r .visits; matches = r .matches; visitList = visits; matchList = matches }
+use Rattle.scan.specs.Scan.{Scanned, leaving, matchesOn, visitsOf, firstUnsound, refused, collected, scan}
 
 abbrev pub refusal : ℕ → ℕ → ScanAnswer
 refusal r a = record { reply = r; bucket = a; visits = 0; matches = 0 }
 
+abbrev pub acceptance : ℕ → ℕ → ScanAnswer
+acceptance visits matches = record { reply = 0; bucket = noBucket; visits = visits; matches = matches }
+
 module _ (file : List ℕ) (lift : ℕ) (way visits matches : List ℕ) where
-  pub collected-unsound : (r : ScanAnswer) (a : ℕ) → r ≡ refusal 7 a → everyOn (bucketSoundIn file) way ≡ false → a ≡ firstUnsound file way
-      → answered r visits matches ≡ collected file lift way visits matches
+  pub collected-unsound : (r : ScanAnswer) (a : ℕ) → r ≡ refusal 7 a → every (bucketSoundIn file) way ≡ false
+      → a ≡ firstUnsound file way
+      → leaving r visits matches ≡ collected file lift way visits matches
   unfolding collected refused
-  collected-unsound r a er bad e = rw bad (λ i. answered ((er ∙ ap (refusal 7) e) i) visits matches)
+  collected-unsound r a er bad e = rw bad (λ i. leaving ((er ∙ ap (refusal 7) e) i) visits matches)
 
-  module _ (fine : everyOn (bucketSoundIn file) way ≡ true) where
+  module _ (fine : every (bucketSoundIn file) way ≡ true) where
     pub collected-short : (r : ScanAnswer) → r ≡ refusal 12 noBucket → length matches < length (matchesOn file lift way)
-        → answered r visits matches ≡ collected file lift way visits matches
+        → leaving r visits matches ≡ collected file lift way visits matches
     unfolding collected refused
-    collected-short r er short = rw (fine, lt-ltb (length matches) (length (matchesOn file lift way)) short) (λ i. answered (er i) visits matches)
+    collected-short r er short = rw (fine, lt-ltb (length matches) (length (matchesOn file lift way)) short)
+        (λ i. leaving (er i) visits matches)
 
-    pub collected-done : length (matchesOn file lift way) ≤ length matches → (m : ℕ) (first second : List ℕ) → m ≡ length (matchesOn file lift way)
+    pub collected-done : length (matchesOn file lift way) ≤ length matches → (m : ℕ) (first second : List ℕ)
+        → m ≡ length (matchesOn file lift way)
         → first ≡ edit 0 way visits → second ≡ edit 0 (matchesOn file lift way) matches
-        → record { answer = 0; bucket = noBucket; visits = length way; matches = m; visitList = first; matchList = second } ≡ collected file lift way visits matches
+        → leaving (acceptance (length way) m) first second ≡ collected file lift way visits matches
     unfolding collected
-    collected-done room m first second em ef es = rw (fine, le-ltb (length matches) (length (matchesOn file lift way)) room)
-        (λ i. record { answer = 0; bucket = noBucket; visits = length way; matches = em i; visitList = ef i; matchList = es i })
+    collected-done room m first second em ef es = rw
+        (fine, le-ltb (length matches) (length (matchesOn file lift way)) room)
+        (λ i. leaving (acceptance (length way) (em i)) (ef i) (es i))
 
 -- along an equal way
-pub collected-along : (file : List ℕ) (lift : ℕ) (visits matches : List ℕ) (o : Scanned) (way same : List ℕ) → o ≡ collected file lift way visits matches → way ≡ same
+pub collected-along : (file : List ℕ) (lift : ℕ) (visits matches : List ℕ) (o : Scanned) (way same : List ℕ)
+    → o ≡ collected file lift way visits matches → way ≡ same
     → o ≡ collected file lift same visits matches
-collected-along file lift visits matches o way same eo ew = eo ∙ ap (λ (w : List ℕ). collected file lift w visits matches) ew
+collected-along file lift visits matches o way same eo ew = eo
+    ∙ ap (λ (w : List ℕ). collected file lift w visits matches) ew
 
 module _ (file table : List ℕ) (client lift : ℕ) (visits matches : List ℕ) where
-  pub scan-early : (r : ScanAnswer) (n : ℕ) → r ≡ refusal n noBucket → n ≡ reply (early file table client) 0 → (n ≡ 0 → ⊥)
-      → answered r visits matches ≡ scan file table client lift visits matches
+  pub scan-early : (r : ScanAnswer) (n : ℕ) → r ≡ refusal n noBucket → n ≡ reply (early file table client) 0
+      → (n ≡ 0 → ⊥)
+      → leaving r visits matches ≡ scan file table client lift visits matches
   unfolding scan refused
-  scan-early r n er e some = rw (ne-eqb (reply (early file table client) 0) 0 (λ z. some (e ∙ z))) (λ i. answered ((er ∙ ap (λ (m : ℕ). refusal m noBucket) e) i) visits matches)
+  scan-early r n er e some = rw (ne-eqb (reply (early file table client) 0) 0 (λ z. some (e ∙ z)))
+      (λ i. leaving ((er ∙ ap (λ (m : ℕ). refusal m noBucket) e) i) visits matches)
 
   module _ (none : reply (early file table client) 0 ≡ 0) where
-    pub scan-short : (r : ScanAnswer) → r ≡ refusal 11 noBucket → length visits < bucketsOf file → answered r visits matches ≡ scan file table client lift visits matches
+    pub scan-short : (r : ScanAnswer) → r ≡ refusal 11 noBucket → length visits < bucketsOf file
+        → leaving r visits matches ≡ scan file table client lift visits matches
     unfolding scan refused
-    scan-short r er short = rw (eq-eqb (reply (early file table client) 0) 0 none, lt-ltb (length visits) (bucketsOf file) short) (λ i. answered (er i) visits matches)
+    scan-short r er short = rw
+        (eq-eqb (reply (early file table client) 0) 0 none, lt-ltb (length visits) (bucketsOf file) short)
+        (λ i. leaving (er i) visits matches)
 
-    pub scan-long : bucketsOf file ≤ length visits → (o : Scanned) (way : List ℕ) → o ≡ collected file lift way visits matches
+    pub scan-long : bucketsOf file ≤ length visits → (o : Scanned) (way : List ℕ)
+        → o ≡ collected file lift way visits matches
         → way ≡ visitsOf file (imageOf table client) → o ≡ scan file table client lift visits matches
     unfolding scan
-    scan-long long o way eo ew = rw (eq-eqb (reply (early file table client) 0) 0 none, le-ltb (length visits) (bucketsOf file) long)
+    scan-long long o way eo ew = rw
+        (eq-eqb (reply (early file table client) 0) 0 none, le-ltb (length visits) (bucketsOf file) long)
         (collected-along file lift visits matches o way (visitsOf file (imageOf table client)) eo ew)
 
   -- its reply, as document 01 lists it
   pub scan-reply : scan file table client lift visits matches .answer ≡ reply (early file table client ++ (
       refuse 11 (ltb (length visits) (bucketsOf file))
-      ∷ refuse 7 (not (everyOn (bucketSoundIn file) (visitsOf file (imageOf table client))))
+      ∷ refuse 7 (not (every (bucketSoundIn file) (visitsOf file (imageOf table client))))
       ∷ refuse 12 (ltb (length matches) (length (matchesOn file lift (visitsOf file (imageOf table client)))))
       ∷ []
       )) 0
   unfolding scan collected refused
-  scan-reply = go (eqb r 0) (ltb (length visits) (bucketsOf file)) (everyOn (bucketSoundIn file) way) (ltb (length matches) (length found))
+  scan-reply = go (eqb r 0) (ltb (length visits) (bucketsOf file)) (every (bucketSoundIn file) way)
+      (ltb (length matches) (length found))
       ∙ sym (reply-append (early file table client) _ 0 ∙ early-else file table client _)
     where
       r : ℕ
@@ -85,15 +98,20 @@ module _ (file table : List ℕ) (client lift : ℕ) (visits matches : List ℕ)
       found : List ℕ
       found = matchesOn file lift way
 
-      go : (none short fine few : Bool) → cond (not none) (refused r noBucket visits matches) (cond short (refused 11 noBucket visits matches)
-          (cond (not fine) (refused 7 (firstUnsound file way) visits matches) (cond few (refused 12 noBucket visits matches)
-          (record { answer = 0; bucket = noBucket; visits = length way; matches = length found; visitList = edit 0 way visits; matchList = edit 0 found matches })))) .answer
+      go : (none short fine few : Bool)
+          → cond (not none) (refused r noBucket visits matches) (cond short (refused 11 noBucket visits matches)
+          (cond (not fine) (refused 7 (firstUnsound file way) visits matches)
+          (cond few (refused 12 noBucket visits matches)
+          (leaving (acceptance (length way) (length found)) (edit 0 way visits) (edit 0 found matches))))) .answer
           ≡ cond none (reply (refuse 11 short ∷ refuse 7 (not fine) ∷ refuse 12 few ∷ []) 0) r
       go false short fine few = refl
       go true true fine few = sym (reply-here 11 true _ 0 refl)
       go true false false few = sym (reply-past 11 false _ 0 refl ∙ reply-here 7 true _ 0 refl)
-      go true false true true = sym (reply-past 11 false _ 0 refl ∙ reply-past 7 false _ 0 refl ∙ reply-here 12 true _ 0 refl)
-      go true false true false = sym (reply-past 11 false _ 0 refl ∙ reply-past 7 false _ 0 refl ∙ reply-past 12 false _ 0 refl ∙ reply-none 0)
+      go true false true true = sym
+          (reply-past 11 false _ 0 refl ∙ reply-past 7 false _ 0 refl ∙ reply-here 12 true _ 0 refl)
+      go true false true false = sym
+          (reply-past 11 false _ 0 refl ∙ reply-past 7 false _ 0 refl ∙ reply-past 12 false _ 0 refl ∙ reply-none 0)
 
-  pub scan-single : (o p : Scanned) → o ≡ scan file table client lift visits matches → p ≡ scan file table client lift visits matches → o ≡ p
+  pub scan-single : (o p : Scanned) → o ≡ scan file table client lift visits matches
+      → p ≡ scan file table client lift visits matches → o ≡ p
   scan-single o p eo ep = eo ∙ sym ep

@@ -7,18 +7,18 @@ use native.Mathlib.Omega.{arith}
 use lib.Dec.{eqb}
 use lib.Count.{ones}
 use lib.ListN.{length, getD, drop, set, length-append, length-set}
-use Rattle.address.specs.Limits.{noBucket}
+use Rattle.address.specs.Limits.{noBucket, mostSlots}
 use Rattle.bucket.specs.Region.{countOf, keyAt}
 use Rattle.bucket.specs.Region.Keep.{keys-count, keys-at}
+use Rattle.bucket.specs.Region.Every.{every-fails, every-next, every-none}
 use Rattle.file.specs.File.{regionOf, bucketSoundIn}
 use Rattle.file.specs.File.Judge.{Known}
 use Rattle.file.specs.File.Region.{sound-few}
 use Rattle.file.specs.declared.Header.{Header}
-use Rattle.route.specs.Way.{everyOn}
-use Rattle.route.specs.Way.Route.{every-fails, every-none}
+use Rattle.bucket.specs.Region.{every}
 use Rattle.scan.specs.Scan.{ofLift, matching, keysIn, matchesOn, firstUnsound}
 use Rattle.scan.specs.Scan.Bits.{bitsOf, bits-count, Noted, note-more}
-use Rattle.scan.specs.Scan.Way.{rest-first, rest-none, every-next}
+use Rattle.scan.specs.Scan.Way.{rest-first, rest-none}
 
 -- ---- the matching ones of some keys
 
@@ -26,11 +26,13 @@ pub lift-is : (lift key : ℕ) → eqb (key / 4294967296) lift ≡ ofLift lift k
 unfolding ofLift
 lift-is lift key = refl
 
-pub match-in : (lift key : ℕ) (keys : List ℕ) → ofLift lift key ≡ true → matching lift (key ∷ keys) ≡ key ∷ matching lift keys
+pub match-in : (lift key : ℕ) (keys : List ℕ) → ofLift lift key ≡ true
+    → matching lift (key ∷ keys) ≡ key ∷ matching lift keys
 unfolding matching
 match-in lift key keys h = rw h
 
-pub match-out : (lift key : ℕ) (keys : List ℕ) → ofLift lift key ≡ false → matching lift (key ∷ keys) ≡ matching lift keys
+pub match-out : (lift key : ℕ) (keys : List ℕ) → ofLift lift key ≡ false
+    → matching lift (key ∷ keys) ≡ matching lift keys
 unfolding matching
 match-out lift key keys h = rw h
 
@@ -42,7 +44,8 @@ pub match-few : (lift : ℕ) (keys : List ℕ) → length (matching lift keys) �
 match-few lift [] = omega (arith, ap length (match-none lift))
 match-few lift (key ∷ keys) = go (ofLift lift key) refl (match-few lift keys)
   where
-    go : (b : Bool) → ofLift lift key ≡ b → length (matching lift keys) ≤ length keys → length (matching lift (key ∷ keys)) ≤ suc (length keys)
+    go : (b : Bool) → ofLift lift key ≡ b → length (matching lift keys) ≤ length keys
+        → length (matching lift (key ∷ keys)) ≤ suc (length keys)
     go true e rest = omega (arith, ap length (match-in lift key keys e))
     go false e rest = omega (arith, ap length (match-out lift key keys e))
 
@@ -52,14 +55,18 @@ pub keys-in-count : (file : List ℕ) (a : ℕ) → length (keysIn file a) ≡ c
 unfolding keysIn
 keys-in-count file a = keys-count (regionOf file a)
 
-pub keys-few : {file : List ℕ} {header : Header} → Known file header → (a : ℕ) → bucketSoundIn file a ≡ true → length (keysIn file a) ≤ 64
-keys-few {file} seen a sound = omega (arith, keys-in-count file a, sound-few file a sound, seen .ranges .figured .few-slots)
+pub keys-few : {file : List ℕ} {header : Header} → Known file header → (a : ℕ) → bucketSoundIn file a ≡ true
+    → length (keysIn file a) ≤ mostSlots
+keys-few {file} seen a sound = omega
+    (arith, keys-in-count file a, sound-few file a sound, seen .ranges .figured .few-slots)
 
-pub key-of : (file : List ℕ) (a k : ℕ) → k < countOf (regionOf file a) → keyAt (regionOf file a) k ≡ getD (keysIn file a) k 0
+pub key-of : (file : List ℕ) (a k : ℕ) → k < countOf (regionOf file a)
+    → keyAt (regionOf file a) k ≡ getD (keysIn file a) k 0
 unfolding keysIn
 key-of file a k used = sym (keys-at (regionOf file a) k used)
 
-pub matches-first : (file : List ℕ) (lift a : ℕ) (way : List ℕ) → matchesOn file lift (a ∷ way) ≡ matching lift (keysIn file a) ++ matchesOn file lift way
+pub matches-first : (file : List ℕ) (lift a : ℕ) (way : List ℕ)
+    → matchesOn file lift (a ∷ way) ≡ matching lift (keysIn file a) ++ matchesOn file lift way
 unfolding matchesOn
 matches-first file lift a way = refl
 
@@ -67,40 +74,62 @@ pub matches-none : (file : List ℕ) (lift : ℕ) → matchesOn file lift [] ≡
 unfolding matchesOn
 matches-none file lift = refl
 
-pub unsound-here : (file : List ℕ) (a : ℕ) (way : List ℕ) → bucketSoundIn file a ≡ false → firstUnsound file (a ∷ way) ≡ a
+pub unsound-here : (file : List ℕ) (a : ℕ) (way : List ℕ) → bucketSoundIn file a ≡ false
+    → firstUnsound file (a ∷ way) ≡ a
 unfolding firstUnsound
 unsound-here file a way h = rw h
 
-pub unsound-later : (file : List ℕ) (a : ℕ) (way : List ℕ) → bucketSoundIn file a ≡ true → firstUnsound file (a ∷ way) ≡ firstUnsound file way
+pub unsound-later : (file : List ℕ) (a : ℕ) (way : List ℕ) → bucketSoundIn file a ≡ true
+    → firstUnsound file (a ∷ way) ≡ firstUnsound file way
 unfolding firstUnsound
 unsound-later file a way h = rw h
 
 -- what a tally tells of a way
-pub record Judged (file : List ℕ) (lift : ℕ) (way : List ℕ) (sound : Bool) (bucket matches : ℕ) (bits : List ℕ) : Type 0 where
-  pub all : sound ≡ everyOn (bucketSoundIn file) way
+pub record WayJudged (file : List ℕ) (lift : ℕ) (way : List ℕ) (sound : Bool) (bucket matches : ℕ) (bits : List ℕ) : Type
+    0 where
+  pub all : sound ≡ every (bucketSoundIn file) way
   pub first : sound ≡ false → bucket ≡ firstUnsound file way
   pub found : sound ≡ true → matches ≡ length (matchesOn file lift way)
   pub noted : sound ≡ true → Noted file lift way bits (length way)
 
--- the judging loop: what is left of the way is judged and counted as the whole, and of the buckets before it is noted which keys match
+-- the judging loop: what is left of the way is judged and counted as the whole, and of the buckets before it is noted
+-- which keys match
 pub record Tallied (file : List ℕ) (lift : ℕ) (way : List ℕ) (k found : ℕ) (bits : List ℕ) : Type 0 where
   pub within : k ≤ length way
   pub long : length way ≤ length bits
-  pub few : found ≤ 64 * k
-  pub sound : everyOn (bucketSoundIn file) (drop k way) ≡ everyOn (bucketSoundIn file) way
+  pub few : found ≤ mostSlots * k
+  pub sound : every (bucketSoundIn file) (drop k way) ≡ every (bucketSoundIn file) way
   pub first : firstUnsound file (drop k way) ≡ firstUnsound file way
   pub counted : found + length (matchesOn file lift (drop k way)) ≡ length (matchesOn file lift way)
   pub noted : Noted file lift way bits k
 
-pub tally-none : (file : List ℕ) (lift : ℕ) (way bits : List ℕ) → length way ≤ length bits → Tallied file lift way 0 0 bits
-tally-none file lift way bits long = record { within = omega arith; long = long; few = omega arith; sound = refl; first = refl; counted = omega arith; noted = λ i h. absurd (omega arith) }
+pub tally-none : (file : List ℕ) (lift : ℕ) (way bits : List ℕ) → length way ≤ length bits
+    → Tallied file lift way 0 0 bits
+tally-none file lift way bits long =
+    record {
+      within = omega arith;
+      long = long;
+      few = omega arith;
+      sound = refl;
+      first = refl;
+      counted = omega arith;
+      noted = λ i h. absurd (omega arith);
+    }
 
-module _ {file : List ℕ} {lift : ℕ} {way : List ℕ} {k found : ℕ} {bits : List ℕ} (so : Tallied file lift way k found bits) where
-  pub tally-done : length way ≤ k → Judged file lift way true noBucket found bits
+module _ {file : List ℕ} {lift : ℕ} {way : List ℕ} {k found : ℕ} {bits : List ℕ}
+    (so : Tallied file lift way k found bits) where
+  pub tally-done : length way ≤ k → WayJudged file lift way true noBucket found bits
   tally-done end = record {
-    all = sym (sym (so .sound) ∙ ap (everyOn (bucketSoundIn file)) (rest-none way k end) ∙ every-none (bucketSoundIn file));
+    all = sym
+        (sym (so .sound) ∙ ap (every (bucketSoundIn file)) (rest-none way k end) ∙ every-none (bucketSoundIn file));
     first = λ h. absurd (true≢false h);
-    found = λ h. omega (arith, so .counted, ap (λ (l : List ℕ). length (matchesOn file lift l)) (rest-none way k end), ap length (matches-none file lift));
+    found = λ h. omega (
+      arith,
+      so .counted,
+      ap (λ (l : List ℕ). length (matchesOn file lift l)) (rest-none way k end),
+      ap length
+          (matches-none file lift),
+    );
     noted = λ h i l. so .noted i (omega arith);
   }
 
@@ -108,19 +137,22 @@ module _ {file : List ℕ} {lift : ℕ} {way : List ℕ} {k found : ℕ} {bits :
     left : drop k way ≡ a ∷ drop (k + 1) way
     left = rest-first way k more ∙ ap (λ (b : ℕ). b ∷ drop (k + 1) way) (sym here)
 
-    pub tally-stop : bucketSoundIn file a ≡ false → Judged file lift way false a 0 bits
+    pub tally-stop : bucketSoundIn file a ≡ false → WayJudged file lift way false a 0 bits
     tally-stop bad = record {
-      all = sym (sym (so .sound) ∙ ap (everyOn (bucketSoundIn file)) left ∙ every-fails (bucketSoundIn file) a (drop (k + 1) way) bad);
+      all = sym
+          (sym (so .sound) ∙ ap (every (bucketSoundIn file)) left
+          ∙ every-fails (bucketSoundIn file) a (drop (k + 1) way) bad);
       first = λ h. sym (unsound-here file a (drop (k + 1) way) bad) ∙ ap (firstUnsound file) (sym left) ∙ so .first;
       found = λ h. absurd (true≢false (sym h));
       noted = λ h. absurd (true≢false (sym h));
     }
 
-    module _ (fine : bucketSoundIn file a ≡ true) (few : length (keysIn file a) ≤ 64) (b : ℕ) (eb : b ≡ bitsOf lift (keysIn file a)) where
+    module _ (fine : bucketSoundIn file a ≡ true) (few : length (keysIn file a) ≤ mostSlots) (b : ℕ)
+        (eb : b ≡ bitsOf lift (keysIn file a)) where
       matches : ones b ≡ length (matching lift (keysIn file a))
       matches = ap ones eb ∙ bits-count lift (keysIn file a)
 
-      pub tally-few : ones b ≤ 64
+      pub tally-few : ones b ≤ mostSlots
       tally-few = omega (arith, matches, match-few lift (keysIn file a))
 
       pub tally-more : Tallied file lift way (k + 1) (found + ones b) (set bits k b)
@@ -128,7 +160,8 @@ module _ {file : List ℕ} {lift : ℕ} {way : List ℕ} {k found : ℕ} {bits :
         within = omega arith;
         long = omega (arith, so .long, length-set bits k b);
         few = omega (arith, so .few, tally-few);
-        sound = sym (every-next (bucketSoundIn file) a (drop (k + 1) way) fine) ∙ ap (everyOn (bucketSoundIn file)) (sym left) ∙ so .sound;
+        sound = sym (every-next (bucketSoundIn file) a (drop (k + 1) way) fine)
+            ∙ ap (every (bucketSoundIn file)) (sym left) ∙ so .sound;
         first = sym (unsound-later file a (drop (k + 1) way) fine) ∙ ap (firstUnsound file) (sym left) ∙ so .first;
         counted = omega (
           arith,
@@ -138,5 +171,6 @@ module _ {file : List ℕ} {lift : ℕ} {way : List ℕ} {k found : ℕ} {bits :
           ap length (matches-first file lift a (drop (k + 1) way)),
           length-append (matching lift (keysIn file a)) (matchesOn file lift (drop (k + 1) way)),
         );
-        noted = note-more file lift way bits k (so .noted) (omega (arith, so .long)) b (eb ∙ ap (λ (c : ℕ). bitsOf lift (keysIn file c)) here);
+        noted = note-more file lift way bits k (so .noted) (omega (arith, so .long)) b
+            (eb ∙ ap (λ (c : ℕ). bitsOf lift (keysIn file c)) here);
       }

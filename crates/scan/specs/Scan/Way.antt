@@ -1,7 +1,8 @@
--- The way of a scan, bucket by bucket from a place on: what it holds is seen from its first bucket, and every bucket of a visit order exists.
+-- The way of a scan, bucket by bucket from a place on: what it holds is seen from its first bucket, and every bucket of
+-- a visit order exists.
 use Prim.Native.Nat.{ℕ, zero, suc, _+_, _≤_, _<_}
 use mathlib.Core.Path.{_≡_, refl, sym, ap, subst, _∙_}
-use mathlib.Core.Bool.{Bool, true, false, true≢false}
+use mathlib.Core.Bool.{true}
 use mathlib.Core.List.{List, [], _∷_}
 use mathlib.Core.Logic.{⊎-elim}
 use native.Mathlib.Numerals.{add-one}
@@ -9,19 +10,16 @@ use native.Mathlib.Omega.{arith}
 use lib.ListN.{length, getD, take, drop, drop-of-length-le}
 use lib.Seq.{drop-cons}
 use Rattle.address.specs.Compare.{below, same}
-use Rattle.address.specs.Limits.{firstBuckets}
+use Rattle.address.specs.Limits.{firstBuckets, mostLevel, mostBuckets}
 use Rattle.address.specs.declared.Image.{Image}
 use Rattle.address.specs.Rules.{Formed, NotAhead, buckets, visits}
 use Rattle.address.specs.Rules.Hash.{span-is, span-mono}
 use Rattle.address.specs.Rules.Scan.{times, times-here, times-there, visits-once, visits-only, visits-length}
 use Rattle.file.specs.File.{stateOf, bucketsOf, headerSound}
-use Rattle.file.specs.File.Judge.{Ranges, header-ranges, Known}
+use Rattle.file.specs.File.Judge.{Ranges, header-ranges, existing, Known}
 use Rattle.file.specs.File.Region.{buckets-known}
 use Rattle.file.specs.declared.Header.{Header}
-use Rattle.route.specs.Way.{everyOn}
-use Rattle.route.specs.Way.Kept.{existing}
 use Rattle.route.specs.Way.Open.{Opening}
-use Rattle.route.specs.Way.Route.{every-past, every-fails, every-one}
 use Rattle.order.specs.Queue.{Scannable}
 use Rattle.scan.specs.Scan.{visitsOf}
 
@@ -32,22 +30,10 @@ rest-first xs k h = rw (add-one k) (drop-cons xs k 0 h)
 pub rest-none : (xs : List ℕ) (k : ℕ) → length xs ≤ k → drop k xs ≡ []
 rest-none xs k h = drop-of-length-le xs h
 
--- a test that all pass, by the first bucket
-module _ (test : ℕ → Bool) (a : ℕ) (way : List ℕ) where
-  pub every-next : test a ≡ true → everyOn test (a ∷ way) ≡ everyOn test way
-  every-next fine = every-past test (a ∷ []) way (every-one test a fine)
-
-  pub every-first : everyOn test (a ∷ way) ≡ true → test a ≡ true
-  every-first all = go (test a) refl
-    where
-      go : (b : Bool) → test a ≡ b → test a ≡ true
-      go true e = e
-      go false e = absurd (true≢false (sym all ∙ every-fails test a way e))
-
 -- the buckets on a way exist, and are not too many for the machine
 pub record Way (file way : List ℕ) : Type 0 where
   pub exist : (k : ℕ) → k < length way → getD way k 0 < bucketsOf file
-  pub few : length way ≤ 4096
+  pub few : length way ≤ mostBuckets
 
 -- an element of a list stands there
 pub times-at : (xs : List ℕ) (k : ℕ) → k < length xs → 0 < times (getD xs k 0) xs
@@ -59,70 +45,78 @@ times-at (x ∷ xs) (suc k) h = ⊎-elim
     (same (getD xs k 0) x)
 
 -- a visit order is such a way, with as many buckets as the file
-module _ (file : List ℕ) (sound : headerSound file ≡ true) (image : Image) (formed : Formed firstBuckets image) (behind : NotAhead firstBuckets (stateOf file) image) where
+module _ (file : List ℕ) (sound : headerSound file ≡ true) (image : Image) (formed : Formed firstBuckets image)
+    (behind : NotAhead firstBuckets (stateOf file) image) where
   seen : Ranges file
   seen = header-ranges file sound
 
   pub way-length : length (visitsOf file image) ≡ bucketsOf file
   unfolding visitsOf
-  way-length = visits-length firstBuckets (omega arith) (stateOf file) (seen .formed) image formed behind ∙ sym (existing file)
+  way-length = visits-length firstBuckets (omega arith) (stateOf file) (seen .formed) image formed behind
+      ∙ sym (existing file)
 
   pub way-once : (a : ℕ) → a < bucketsOf file → times a (visitsOf file image) ≡ 1
   unfolding visitsOf
-  way-once a h = visits-once firstBuckets (omega arith) (stateOf file) (seen .formed) image formed behind a (omega (arith, h, existing file))
+  way-once a h = visits-once firstBuckets (omega arith) (stateOf file) (seen .formed) image formed behind a
+      (omega (arith, h, existing file))
 
   pub way-only : (a : ℕ) → bucketsOf file ≤ a → times a (visitsOf file image) ≡ 0
   unfolding visitsOf
-  way-only a h = visits-only firstBuckets (omega arith) (stateOf file) (seen .formed) image formed behind a (omega (arith, h, existing file))
+  way-only a h = visits-only firstBuckets (omega arith) (stateOf file) (seen .formed) image formed behind a
+      (omega (arith, h, existing file))
 
   pub visit-way : Way file (visitsOf file image)
   visit-way = record {
     exist = λ k h. ⊎-elim (λ l. l)
-        (λ past. absurd (omega (arith, times-at (visitsOf file image) k h, way-only (getD (visitsOf file image) k 0) past)))
+        (λ past. absurd
+        (omega (arith, times-at (visitsOf file image) k h, way-only (getD (visitsOf file image) k 0) past)))
         (below (getD (visitsOf file image) k 0) (bucketsOf file));
     few = omega (arith, way-length, seen .few, seen .figured .few-buckets);
   }
 
 -- ---- the way of a scan that is not refused so far
 
-pub record Ready (file : List ℕ) (header : Header) (image : Image) : Type 0 where
+pub record Starting (file : List ℕ) (header : Header) (image : Image) : Type 0 where
   pub known : Known file header
-  pub low : image .level ≤ 12
+  pub low : image .level ≤ mostLevel
   pub formed : Formed firstBuckets image
   pub behind : NotAhead firstBuckets (stateOf file) image
 
-pub ready : {file table : List ℕ} {client : ℕ} {header : Header} {image : Image} → Opening file table client header image → Ready file header image
-ready opened = record { known = opened .known; low = opened .low; formed = opened .formed; behind = opened .behind }
+pub starting : {file table : List ℕ} {client : ℕ} {header : Header} {image : Image}
+    → Opening file table client header image → Starting file header image
+starting opened = record { known = opened .known; low = opened .low; formed = opened .formed; behind = opened .behind }
 
-module _ {file : List ℕ} {header : Header} {image : Image} (given : Ready file header image) where
-  pub ready-buckets : (n : ℕ) → n ≡ buckets firstBuckets (header .state) → n ≡ bucketsOf file
-  ready-buckets = buckets-known file header (given .known)
+module _ {file : List ℕ} {header : Header} {image : Image} (given : Starting file header image) where
+  pub starting-buckets : (n : ℕ) → n ≡ buckets firstBuckets (header .state) → n ≡ bucketsOf file
+  starting-buckets = buckets-known file header (given .known)
 
-  pub ready-few : bucketsOf file ≤ 4096
-  ready-few = omega (arith, given .known .ranges .few, given .known .ranges .figured .few-buckets)
+  pub starting-few : bucketsOf file ≤ mostBuckets
+  starting-few = omega (arith, given .known .ranges .few, given .known .ranges .figured .few-buckets)
 
-  pub ready-scannable : Scannable (header .state) image
-  ready-scannable = record {
+  pub starting-scannable : Scannable (header .state) image
+  starting-scannable = record {
     room = given .known .room;
     image-room = record {
       levels = record { some = omega arith; few = omega arith; low = omega (arith, given .low) };
-      near = omega (arith, given .formed, span-mono firstBuckets (given .low), span-is firstBuckets 12);
+      near = omega (arith, given .formed, span-mono firstBuckets (given .low), span-is firstBuckets mostLevel);
     };
     formed = subst (Formed firstBuckets) (sym (given .known .state)) (given .known .ranges .formed);
     image-formed = given .formed;
     behind = subst (λ (s : Image). NotAhead firstBuckets s image) (sym (given .known .state)) (given .behind);
-    few = omega (arith, ready-buckets (buckets firstBuckets (header .state)) refl, ready-few);
+    few = omega (arith, starting-buckets (buckets firstBuckets (header .state)) refl, starting-few);
   }
 
   -- the list that was filled is the visit order
   module _ (queue : List ℕ) (n : ℕ) (en : n ≡ buckets firstBuckets (header .state))
       (filled : take (buckets firstBuckets (header .state)) queue ≡ visits firstBuckets (header .state) image) where
-    pub ready-visits : take n queue ≡ visitsOf file image
+    pub starting-visits : take n queue ≡ visitsOf file image
     unfolding visitsOf
-    ready-visits = ap (λ (m : ℕ). take m queue) en ∙ filled ∙ ap (λ (s : Image). visits firstBuckets s image) (given .known .state)
+    starting-visits = ap (λ (m : ℕ). take m queue) en ∙ filled
+        ∙ ap (λ (s : Image). visits firstBuckets s image) (given .known .state)
 
-    pub ready-way : Way file (take n queue)
-    ready-way = subst (Way file) (sym ready-visits) (visit-way file (given .known .sound) image (given .formed) (given .behind))
+    pub starting-way : Way file (take n queue)
+    starting-way = subst (Way file) (sym starting-visits)
+        (visit-way file (given .known .sound) image (given .formed) (given .behind))
 
-    pub ready-length : length (take n queue) ≡ bucketsOf file
-    ready-length = ap length ready-visits ∙ way-length file (given .known .sound) image (given .formed) (given .behind)
+    pub starting-length : length (take n queue) ≡ bucketsOf file
+    starting-length = ap length starting-visits ∙ way-length file (given .known .sound) image (given .formed) (given .behind)

@@ -25,7 +25,11 @@ run-insert-requires : tie.Need-run-insert-requires
 run-insert-requires c κs =
     let r = c .before .before .before .before .before .before in
     let a = r .before .before .before .before .before .args in
-    omega (arith, line-room (a .line .now) _ (sym (r .read-command .ensures) ∙ c .before .before .before .before .command .given .1))
+    omega (
+      arith,
+      line-room (a .line .now) _
+          (sym (r .read-command .ensures) ∙ c .before .before .before .before .command .given .1),
+    )
 
 enum-known-command-2 : tie.Need-enum-known-command-2
 enum-known-command-2 c = search needs
@@ -34,7 +38,11 @@ run-search-requires : tie.Need-run-search-requires
 run-search-requires c κs =
     let r = c .before .before .before .before .before .before in
     let a = r .before .before .before .before .before .args in
-    omega (arith, line-room (a .line .now) _ (sym (r .read-command .ensures) ∙ c .before .before .before .before .command2 .given .1))
+    omega (
+      arith,
+      line-room (a .line .now) _
+          (sym (r .read-command .ensures) ∙ c .before .before .before .before .command2 .given .1),
+    )
 
 enum-known-command-3 : tie.Need-enum-known-command-3
 enum-known-command-3 c = search needs
@@ -43,7 +51,11 @@ run-scan-requires : tie.Need-run-scan-requires
 run-scan-requires c κs =
     let r = c .before .before .before .before .before .before in
     let a = r .before .before .before .before .before .args in
-    omega (arith, line-room (a .line .now) _ (sym (r .read-command .ensures) ∙ c .before .before .before .before .command3 .given .1))
+    omega (
+      arith,
+      line-room (a .line .now) _
+          (sym (r .read-command .ensures) ∙ c .before .before .before .before .command3 .given .1),
+    )
 
 enum-told-2 : tie.Need-enum-told-2
 enum-told-2 c = search needs
@@ -61,7 +73,10 @@ returns : tie.Need-returns
 returns c =
     let r = c .before .before .before .before .before .before .before .before .before in
     let a = r .before .before .before .before .before .args in
-    line-done (a .file .now) (a .table .now) (a .line .now) _ (sym (r .read-command .ensures) ∙ c .before .before .before .before .before .before .before .enum-told .given .1) (c .before .before .before .before .run-split .ensures (a .table .now))
+    line-done (a .file .now) (a .table .now) (a .line .now) _
+    (sym (r .read-command .ensures)
+    ∙ c .before .before .before .before .before .before .before .enum-told .given .1)
+    (c .before .before .before .before .run-split .ensures (a .table .now))
 
 same-length-3 : tie.Need-same-length-3
 same-length-3 c = search needs
@@ -76,7 +91,10 @@ returns-2 : tie.Need-returns-2
 returns-2 c =
     let r = c .before .before .before .before .before .before .before .before .before .before .before .before .before in
     let a = r .before .before .before .before .before .args in
-    line-done (a .file .now) (a .table .now) (a .line .now) _ (sym (r .read-command .ensures) ∙ c .before .before .before .before .before .before .before .before .before .before .before .command .given .1) (c .before .before .before .before .before .before .run-insert .ensures)
+    line-done (a .file .now) (a .table .now) (a .line .now) _
+    (sym (r .read-command .ensures)
+    ∙ c .before .before .before .before .before .before .before .before .before .before .before .command .given .1)
+    (c .before .before .before .before .before .before .run-insert .ensures)
 
 same-length-6 : tie.Need-same-length-6
 same-length-6 c = search needs
@@ -91,7 +109,10 @@ returns-3 : tie.Need-returns-3
 returns-3 c =
     let r = c .before .before .before .before .before .before .before .before .before .before .before in
     let a = r .before .before .before .before .before .args in
-    line-done (a .file .now) (a .table .now) (a .line .now) _ (sym (r .read-command .ensures) ∙ c .before .before .before .before .before .before .before .before .before .command2 .given .1) (c .before .before .before .before .run-search .ensures)
+    line-done (a .file .now) (a .table .now) (a .line .now) _
+    (sym (r .read-command .ensures)
+    ∙ c .before .before .before .before .before .before .before .before .before .command2 .given .1)
+    (c .before .before .before .before .run-search .ensures)
 
 same-length-9 : tie.Need-same-length-9
 same-length-9 c = search needs
@@ -106,7 +127,9 @@ returns-4 : tie.Need-returns-4
 returns-4 c =
     let r = c .before .before .before .before .before .before .before .before .before in
     let a = r .before .before .before .before .before .args in
-    line-done (a .file .now) (a .table .now) (a .line .now) _ (sym (r .read-command .ensures) ∙ c .before .before .before .before .before .before .before .command3 .given .1) (c .before .before .run-scan .ensures)
+    line-done (a .file .now) (a .table .now) (a .line .now) _
+    (sym (r .read-command .ensures) ∙ c .before .before .before .before .before .before .before .command3 .given .1)
+    (c .before .before .run-scan .ensures)
 
 same-length-12 : tie.Need-same-length-12
 same-length-12 c = search needs
@@ -115,7 +138,9 @@ returns-5 : tie.Need-returns-5
 returns-5 c =
     let r = c .before .before .before .before .before .before in
     let a = r .before .before .before .before .before .args in
-    line-done (a .file .now) (a .table .now) (a .line .now) _ (sym (r .read-command .ensures) ∙ c .before .before .before .before .enum-told2 .given .1) (unknown-done (a .file .now) (a .table .now) (c .before .before .put-unknown .ensures))
+    line-done (a .file .now) (a .table .now) (a .line .now) _
+    (sym (r .read-command .ensures) ∙ c .before .before .before .before .enum-told2 .given .1)
+    (unknown-done (a .file .now) (a .table .now) (c .before .before .put-unknown .ensures))
 
 pub run-line-spec : {M : Type 1} → statement M
 run-line-spec =

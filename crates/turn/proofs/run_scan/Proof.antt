@@ -26,13 +26,20 @@ array-share-prefix-visits c =
     omega (arith, visits-few (a .file .now) (a .table .now) (a .client) (a .lift) _ (s .scan .ensures))
 
 slice-aggregate-put-scan : tie.Need-slice-aggregate-put-scan
-slice-aggregate-put-scan c = sym (length-take-le (c .before .before .before .before .before .scan .result .visits) _ (array-share-prefix-visits (c .before)))
+slice-aggregate-put-scan c = sym
+    (length-take-le (c .before .before .before .before .before .scan .result .visits) _
+    (array-share-prefix-visits (c .before)))
 
 put-scan-requires : tie.Need-put-scan-requires
 put-scan-requires c κs =
     let s = c .before .before .before .before .before in
     let a = s .before .before .before .before .before .before .args in
-    omega (arith, slice-aggregate-put-scan c, visits-few (a .file .now) (a .table .now) (a .client) (a .lift) _ (s .scan .ensures))
+    omega (
+      arith,
+      slice-aggregate-put-scan c,
+      visits-few (a .file .now) (a .table .now) (a .client) (a .lift) _
+          (s .scan .ensures),
+    )
 
 same-length : tie.Need-same-length
 same-length c = search needs
@@ -42,7 +49,9 @@ returns c =
     let s = c .before .before .before .before .before .before .before .before in
     let a = s .before .before .before .before .before .before .args in
     let few = visits-few (a .file .now) (a .table .now) (a .client) (a .lift) _ (s .scan .ensures) in
-    scan-done (a .file .now) (a .table .now) (a .client) (a .lift) _ _ (s .scan .ensures) (omega (arith, few, slice-aggregate-put-scan (c .before .before .before))) (c .before .before .put-scan .ensures)
+    scan-done (a .file .now) (a .table .now) (a .client) (a .lift) _ _ (s .scan .ensures)
+    (omega (arith, few, slice-aggregate-put-scan (c .before .before .before)))
+    (c .before .before .put-scan .ensures)
 
 pub run-scan-spec : {M : Type 1} → statement M
 run-scan-spec =

@@ -1,4 +1,5 @@
--- Each command by what its call told, and the lines of an input one after another: what is printed so far, and what the rest prints, is the whole.
+-- Each command by what its call told, and the lines of an input one after another: what is printed so far, and what the
+-- rest prints, is the whole.
 use Prim.Native.Nat.{ℕ, _+_, _-_, _≤_, _<_}
 use mathlib.Core.Path.{_≡_, refl, _∙_, sym, ap, ap₂, subst}
 use mathlib.Core.List.{List, [], _∷_, _++_, append-assoc, append-nil}
@@ -8,10 +9,10 @@ use borrow.Author.Tests.{lt-ltb}
 use lib.ListN.{length, take, drop, replicate, length-drop, drop-of-length-le}
 use lib.Seq.{length-take-le}
 use Rattle.client.specs.Table.{Joined, join}
-use Rattle.file.specs.File.{Created, create, Splitted, split}
+use Rattle.file.specs.File.{Created, create, SplitOutcome, split}
 use Rattle.ride.specs.Call.{Outcome, insert, search}
 use Rattle.scan.specs.Scan.{Scanned, scan}
-use Rattle.scan.specs.Scan.Accepted.{visits-fit}
+use Rattle.scan.specs.Scan.Outcome.{visits-fit}
 use Rattle.lines.specs.Bytes.{lineFeed, letterI, letterS}
 use Rattle.lines.specs.Lines.{unknownLine, rideLine, splitLine, scanLine, Wrote, WroteLine, lineRoom}
 use Rattle.lines.specs.Lines.Edit.{wrote-none, wrote-both}
@@ -24,47 +25,68 @@ use Rattle.turn.specs.Session.{Done, madeFile, joinedTable, ran, printed
 
 -- each command, by what its call told and what was written of it
 module _ {at next : ℕ} {entry exit : List ℕ} (file table : List ℕ) where
-  pub split-done : (o : Splitted) → o ≡ split file → WroteLine (lineRoom 2) at (splitLine (o .answer) (o .old) (o .new)) entry exit next
+  pub split-done : (o : SplitOutcome) → o ≡ split file
+      → WroteLine (lineRoom 2) at (splitLine (o .answer) (o .old) (o .new)) entry exit next
       → Done (lineRoom 2) (ran file table Split) (o .file) table at entry exit next
   unfolding ran
   split-done o e w = subst
-      (λ (p : Splitted). Done (lineRoom 2) (record { file = p .file; table = table; line = splitLine (p .answer) (p .old) (p .new) }) (o .file) table at entry exit next)
+      (λ (p : SplitOutcome). Done (lineRoom 2)
+      (record { file = p .file; table = table; line = splitLine (p .answer) (p .old) (p .new) }) (o .file) table at
+      entry exit next)
       e
       (record { holds = refl; knows = refl; prints = w })
 
-  ride-done : (letter : ℕ) (o p : Outcome) → o ≡ p → WroteLine (lineRoom 3) at (rideLine letter (o .block)) entry exit next
-      → Done (lineRoom 3) (record { file = p .file; table = p .table; line = rideLine letter (p .block) }) (o .file) (o .table) at entry exit next
+  ride-done : (letter : ℕ) (o p : Outcome) → o ≡ p
+      → WroteLine (lineRoom 3) at (rideLine letter (o .block)) entry exit next
+      → Done (lineRoom 3) (record { file = p .file; table = p .table; line = rideLine letter (p .block) }) (o .file)
+      (o .table) at entry exit next
   ride-done letter o p e w = subst
-      (λ (q : Outcome). Done (lineRoom 3) (record { file = q .file; table = q .table; line = rideLine letter (q .block) }) (o .file) (o .table) at entry exit next)
+      (λ (q : Outcome). Done (lineRoom 3)
+      (record { file = q .file; table = q .table; line = rideLine letter (q .block) }) (o .file) (o .table) at entry
+      exit next)
       e
       (record { holds = refl; knows = refl; prints = w })
 
   pub insert-done : (client key : ℕ) (o : Outcome) → o ≡ insert file table client key (replicate 14 0) (replicate 24 0)
-      → WroteLine (lineRoom 3) at (rideLine letterI (o .block)) entry exit next → Done (lineRoom 3) (ran file table (Insert client key)) (o .file) (o .table) at entry exit next
+      → WroteLine (lineRoom 3) at (rideLine letterI (o .block)) entry exit next
+      → Done (lineRoom 3) (ran file table (Insert client key)) (o .file) (o .table) at entry exit next
   unfolding ran
-  insert-done client key o e w = ride-done letterI o (insert file table client key (replicate 14 0) (replicate 24 0)) e w
+  insert-done client key o e w = ride-done letterI o (insert file table client key (replicate 14 0) (replicate 24 0)) e
+      w
 
   pub search-done : (client key : ℕ) (o : Outcome) → o ≡ search file table client key (replicate 24 0)
-      → WroteLine (lineRoom 3) at (rideLine letterS (o .block)) entry exit next → Done (lineRoom 3) (ran file table (Search client key)) (o .file) (o .table) at entry exit next
+      → WroteLine (lineRoom 3) at (rideLine letterS (o .block)) entry exit next
+      → Done (lineRoom 3) (ran file table (Search client key)) (o .file) (o .table) at entry exit next
   unfolding ran
   search-done client key o e w = ride-done letterS o (search file table client key (replicate 24 0)) e w
 
-  pub scan-done : (client lift count : ℕ) (o : Scanned) → o ≡ scan file table client lift (replicate 16 0) (replicate 64 0) → count ≤ 16
-      → WroteLine (lineRoom count) at (scanLine (o .answer) (take (o .visits) (o .visitList)) (o .matches)) entry exit next
+  pub scan-done : (client lift count : ℕ) (o : Scanned)
+      → o ≡ scan file table client lift (replicate 16 0) (replicate 64 0) → count ≤ 16
+      → WroteLine (lineRoom count) at (scanLine (o .answer) (take (o .visits) (o .visitList)) (o .matches)) entry exit
+      next
       → Done (lineRoom 16) (ran file table (Scan client lift)) file table at entry exit next
   unfolding ran
   scan-done client lift count o e few w = subst
-      (λ (p : Scanned). Done (lineRoom 16) (record { file = file; table = table; line = scanLine (p .answer) (take (p .visits) (p .visitList)) (p .matches) }) file table at entry exit next)
+      (λ (p : Scanned). Done (lineRoom 16)
+      (record {
+        file = file;
+        table = table;
+        line = scanLine (p .answer) (take (p .visits) (p .visitList))
+            (p .matches);
+      }) file table at entry exit next)
       e
       (record { holds = refl; knows = refl; prints = record { wrote = w .wrote; short = omega (arith, w .short) } })
 
-  pub unknown-done : WroteLine (lineRoom 0) at unknownLine entry exit next → Done (lineRoom 0) (ran file table Unknown) file table at entry exit next
+  pub unknown-done : WroteLine (lineRoom 0) at unknownLine entry exit next
+      → Done (lineRoom 0) (ran file table Unknown) file table at entry exit next
   unfolding ran
   unknown-done w = record { holds = refl; knows = refl; prints = w }
 
-pub visits-few : (file table : List ℕ) (client lift : ℕ) (o : Scanned) → o ≡ scan file table client lift (replicate 16 0) (replicate 64 0) → o .visits ≤ 16
+pub visits-few : (file table : List ℕ) (client lift : ℕ) (o : Scanned)
+    → o ≡ scan file table client lift (replicate 16 0) (replicate 64 0) → o .visits ≤ 16
 visits-few file table client lift o e =
-    omega (arith, ap (λ (s : Scanned). s .visits) e, visits-fit file table client lift (replicate 16 0) (replicate 64 0))
+    omega
+    (arith, ap (λ (s : Scanned). s .visits) e, visits-fit file table client lift (replicate 16 0) (replicate 64 0))
 
 -- a command's own room is within that of its line, since one with two numbers has at least five bytes
 abbrev pub roomOf : Command → ℕ
@@ -81,21 +103,25 @@ most-room (Search client key) = omega arith
 most-room (Scan client lift) = omega arith
 most-room Unknown = omega arith
 
-pub line-room : (line : List ℕ) (command : Command) → commandOf line ≡ command → roomOf command ≤ roomFor (length line + 1)
+pub line-room : (line : List ℕ) (command : Command) → commandOf line ≡ command
+    → roomOf command ≤ roomFor (length line + 1)
 line-room line command is = go (one-spelling line)
   where
     go : Spelling line → roomOf command ≤ roomFor (length line + 1)
     go (unknown e) = rw (sym is ∙ e) (omega arith)
     go (splits e l) = rw (sym is ∙ e) (omega (arith, ap length l))
-    go (numbers letter client number e some more l) = omega (arith, most-room command, ap length l, spelling-long letter client number)
+    go (numbers letter client number e some more l) = omega
+        (arith, most-room command, ap length l, spelling-long letter client number)
 
-pub line-done : {after images entry exit : List ℕ} {at next : ℕ} (file table line : List ℕ) (command : Command) → commandOf line ≡ command
+pub line-done : {after images entry exit : List ℕ} {at next : ℕ} (file table line : List ℕ) (command : Command)
+    → commandOf line ≡ command
     → Done (roomOf command) (ran file table command) after images at entry exit next
     → Done (roomFor (length line + 1)) (ran file table (commandOf line)) after images at entry exit next
 line-done file table line command is done = rw is (record {
   holds = done .holds;
   knows = done .knows;
-  prints = record { wrote = done .prints .wrote; short = omega (arith, done .prints .short, line-room line command is) };
+  prints =
+      record { wrote = done .prints .wrote; short = omega (arith, done .prints .short, line-room line command is) };
 })
 
 -- what is printed of an input's pieces: nothing, what no line feed ends, or a line and the rest
@@ -108,21 +134,26 @@ module _ (file table : List ℕ) where
   unfolding printedFrom
   printed-last last some = rw (lt-ltb 0 (length last) some)
 
-  printed-line : (line text after images : List ℕ) → after ≡ ran file table (commandOf line) .file → images ≡ ran file table (commandOf line) .table
-      → printedFrom file table (line ∷ pieces lineFeed text) ≡ ran file table (commandOf line) .line ++ printedFrom after images (pieces lineFeed text)
+  printed-line : (line text after images : List ℕ) → after ≡ ran file table (commandOf line) .file
+      → images ≡ ran file table (commandOf line) .table
+      → printedFrom file table (line ∷ pieces lineFeed text)
+      ≡ ran file table (commandOf line) .line ++ printedFrom after images (pieces lineFeed text)
   unfolding printedFrom
   printed-line line text after images holds knows =
       let (first, rest, is) = some-piece lineFeed text in
       rw (is, holds, knows)
 
 -- what is printed of an input, by what create and four joins told
-pub printed-is : (input : List ℕ) (made : Created) (one two three four : Joined) → made ≡ create (replicate 1680 0) 2 4 16 → one ≡ join (replicate 32 0) 0
+pub printed-is : (input : List ℕ) (made : Created) (one two three four : Joined)
+    → made ≡ create (replicate 1680 0) 2 4 16 → one ≡ join (replicate 32 0) 0
     → two ≡ join (one .table) 1 → three ≡ join (two .table) 2 → four ≡ join (three .table) 3
     → printedFrom (made .file) (four .table) (pieces lineFeed input) ≡ printed input
 unfolding printed madeFile joinedTable
 printed-is input made one two three four m e1 e2 e3 e4 =
     ap₂ (λ (f t : List ℕ). printedFrom f t (pieces lineFeed input)) (ap (λ (o : Created). o .file) m)
-    (ap table e4 ∙ ap (λ (t : List ℕ). join t 3 .table) (ap table e3 ∙ ap (λ (t : List ℕ). join t 2 .table) (ap table e2 ∙ ap (λ (t : List ℕ). join t 1 .table) (ap table e1))))
+    (ap table e4 ∙ ap (λ (t : List ℕ). join t 3 .table)
+    (ap table e3 ∙ ap (λ (t : List ℕ). join t 2 .table)
+    (ap table e2 ∙ ap (λ (t : List ℕ). join t 1 .table) (ap table e1))))
   where
     table : Joined → List ℕ
     table j = j .table
@@ -131,14 +162,17 @@ printed-is input made one two three four m e1 e2 e3 e4 =
 pub record Printing (input file₀ table₀ out₀ : List ℕ) (from : ℕ) (file table out : List ℕ) (at : ℕ) : Type 0 where
   pub text : List ℕ
   pub wrote : Wrote 0 text out₀ out at
-  pub whole : text ++ printedFrom file table (pieces lineFeed (drop from input)) ≡ printedFrom file₀ table₀ (pieces lineFeed input)
+  pub whole : text ++ printedFrom file table (pieces lineFeed (drop from input))
+      ≡ printedFrom file₀ table₀ (pieces lineFeed input)
   pub room : at ≤ roomFor from
   pub within : from ≤ length input
 
 pub printing-none : (input file table out : List ℕ) → Printing input file table out 0 file table out 0
-printing-none input file table out = record { text = []; wrote = wrote-none 0 out (omega arith); whole = refl; room = omega arith; within = omega arith }
+printing-none input file table out =
+    record { text = []; wrote = wrote-none 0 out (omega arith); whole = refl; room = omega arith; within = omega arith }
 
-module _ {input file₀ table₀ out₀ : List ℕ} {from : ℕ} {file table out : List ℕ} {at : ℕ} (so : Printing input file₀ table₀ out₀ from file table out at) where
+module _ {input file₀ table₀ out₀ : List ℕ} {from : ℕ} {file table out : List ℕ} {at : ℕ}
+    (so : Printing input file₀ table₀ out₀ from file table out at) where
   module _ (end : ℕ) (is : end ≡ lineEnd input from) (inside : end < length input) where
     later : from ≤ end
     later = omega (arith, place-after lineFeed input from)
@@ -147,7 +181,8 @@ module _ {input file₀ table₀ out₀ : List ℕ} {from : ℕ} {file table out
     line-length = length-take-le (end - from) (drop from input) (omega (arith, later, length-drop from input))
 
     pub printing-more : {after images exit : List ℕ} {next : ℕ}
-        → Done (roomFor (length (take (end - from) (drop from input)) + 1)) (ran file table (commandOf (take (end - from) (drop from input)))) after images at out exit next
+        → Done (roomFor (length (take (end - from) (drop from input)) + 1))
+        (ran file table (commandOf (take (end - from) (drop from input)))) after images at out exit next
         → Printing input file₀ table₀ out₀ (end + 1) after images exit next
     printing-more {after} {images} done = record {
       text = so .text ++ line;
@@ -163,18 +198,23 @@ module _ {input file₀ table₀ out₀ : List ℕ} {from : ℕ} {file table out
         rest : List ℕ
         rest = printedFrom after images (pieces lineFeed (drop (end + 1) input))
 
-        parts : pieces lineFeed (drop from input) ≡ take (end - from) (drop from input) ∷ pieces lineFeed (drop (end + 1) input)
+        parts : pieces lineFeed (drop from input)
+            ≡ take (end - from) (drop from input) ∷ pieces lineFeed (drop (end + 1) input)
         parts = rw (add-one, is) (pieces-more lineFeed input from (so .within) (omega arith))
 
         step : printedFrom file table (pieces lineFeed (drop from input)) ≡ line ++ rest
-        step = rw parts (printed-line file table (take (end - from) (drop from input)) (drop (end + 1) input) after images (done .holds) (done .knows))
+        step = rw parts
+            (printed-line file table (take (end - from) (drop from input)) (drop (end + 1) input) after images
+            (done .holds) (done .knows))
 
-  pub printing-cut : from < length input → lineEnd input from ≡ length input → {exit : List ℕ} {next : ℕ} → WroteLine (lineRoom 0) at unknownLine out exit next
+  pub printing-cut : from < length input → lineEnd input from ≡ length input → {exit : List ℕ} {next : ℕ}
+      → WroteLine (lineRoom 0) at unknownLine out exit next
       → Wrote 0 (printedFrom file₀ table₀ (pieces lineFeed input)) out₀ exit next
   printing-cut some h w = rw (← (so .whole), last) (wrote-both (so .wrote) (w .wrote))
     where
       last : printedFrom file table (pieces lineFeed (drop from input)) ≡ unknownLine
-      last = rw (pieces-last lineFeed input from (so .within) h) (printed-last file table (drop from input) (omega (arith, length-drop from input)))
+      last = rw (pieces-last lineFeed input from (so .within) h)
+          (printed-last file table (drop from input) (omega (arith, length-drop from input)))
 
   pub printing-done : length input ≤ from → Wrote 0 (printedFrom file₀ table₀ (pieces lineFeed input)) out₀ out at
   printing-done h = rw (← (so .whole), none, append-nil (so .text)) (so .wrote)

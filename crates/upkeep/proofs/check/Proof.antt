@@ -14,7 +14,8 @@ returns : tie.Need-returns
 returns c =
     let h = c .before .before .header-of in
     let d = c .before .before .before .before in
-    check-header (d .args .file .now) (unknown (d .args .file .now) (h .result) (h .ensures) (not-true _ (c .if1 .taken)))
+    check-header (d .args .file .now)
+    (unknown (d .args .file .now) (h .result) (h .ensures) (not-true _ (c .if1 .taken)))
 
 lowest-unsound-requires : tie.Need-lowest-unsound-requires
 lowest-unsound-requires c κs =
@@ -27,15 +28,19 @@ returns-2 : tie.Need-returns-2
 returns-2 c =
     let h = c .before .before .before .before .before .header-of in
     let d = c .before .before .before .before .before .before .before in
-    let seen = known (d .args .file .now) (h .result) (h .ensures) (not-false _ (c .before .before .before .if1 .left)) in
-    check-region (d .args .file .now) (seen .sound) (c .before .before .lowest-unsound .result) (c .before .before .lowest-unsound .ensures) (omega (arith, seen .most))
+    let seen = known (d .args .file .now) (h .result) (h .ensures) (not-false _ (c .before .before .before .if1 .left))
+    in
+    check-region (d .args .file .now) (seen .sound) (c .before .before .lowest-unsound .result)
+    (c .before .before .lowest-unsound .ensures) (omega (arith, seen .most))
 
 returns-3 : tie.Need-returns-3
 returns-3 c =
     let h = c .before .before .before .before .before .header-of in
     let d = c .before .before .before .before .before .before .before in
-    let seen = known (d .args .file .now) (h .result) (h .ensures) (not-false _ (c .before .before .before .if1 .left)) in
-    check-none (d .args .file .now) (seen .sound) (c .before .before .lowest-unsound .result) (c .before .before .lowest-unsound .ensures) (omega (arith, seen .most))
+    let seen = known (d .args .file .now) (h .result) (h .ensures) (not-false _ (c .before .before .before .if1 .left))
+    in
+    check-none (d .args .file .now) (seen .sound) (c .before .before .lowest-unsound .result)
+    (c .before .before .lowest-unsound .ensures) (omega (arith, seen .most))
 
 pub check-spec : {M : Type 1} → statement M
 check-spec =

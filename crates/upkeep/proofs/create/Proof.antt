@@ -3,7 +3,7 @@ use mathlib.Core.Path.{sym, _∙_}
 use native.Mathlib.Omega.{arith}
 use borrow.Author.Tests.{not-true, not-false}
 use Rattle.file.specs.File.Judge.{figures}
-use Rattle.file.specs.File.Create.{create-room, created-bytes, create-refused, create-done}
+use Rattle.file.specs.File.Create.{create-room, created-written, create-refused, create-done}
 use borrow.Author.Needs.{needs}
 use Rattle.upkeep.proofs.create.Statement.{statement}
 use Rattle.upkeep.proofs.create.Tie as tie
@@ -14,7 +14,8 @@ figures-fit-requires c κs = search needs
 returns : tie.Need-returns
 returns c =
     let a = c .before .before .before .args in
-    create-refused (a .file .now) (a .capacity) (a .slots) (a .most) (sym (c .before .figures-fit .ensures) ∙ not-true _ (c .if1 .taken))
+    create-refused (a .file .now) (a .capacity) (a .slots) (a .most)
+    (sym (c .before .figures-fit .ensures) ∙ not-true _ (c .if1 .taken))
 
 clear-requires : tie.Need-clear-requires
 clear-requires c κs = search needs
@@ -22,25 +23,37 @@ clear-requires c κs = search needs
 put-figures-requires : tie.Need-put-figures-requires
 put-figures-requires c κs =
     let a = c .before .before .before .before .before .before .before .before .args in
-    let fits = figures _ (a .capacity) (a .slots) (a .most) (sym (c .before .before .before .before .before .before .figures-fit .ensures) ∙ not-false _ (c .before .before .before .before .before .if1 .left)) in
-    (omega (arith, c .before .before .before .clear .kept, fits .whole), omega (arith, fits .few-capacity, fits .few-slots), omega (arith, fits .few-slots))
+    let fits = figures _ (a .capacity) (a .slots) (a .most)
+    (sym (c .before .before .before .before .before .before .figures-fit .ensures)
+    ∙ not-false _ (c .before .before .before .before .before .if1 .left)) in (
+      omega (arith, c .before .before .before .clear .kept, fits .whole),
+      omega
+          (arith, fits .few-capacity, fits .few-slots),
+      omega (arith, fits .few-slots),
+    )
 
 mul-end : tie.Need-mul-end
 mul-end c =
     let a = c .before .before .before .before .before .before .before .before .before .before .before .args in
-    let fits = figures _ (a .capacity) (a .slots) (a .most) (sym (c .before .before .before .before .before .before .before .before .before .figures-fit .ensures) ∙ not-false _ (c .before .before .before .before .before .before .before .before .if1 .left)) in
+    let fits = figures _ (a .capacity) (a .slots) (a .most)
+    (sym (c .before .before .before .before .before .before .before .before .before .figures-fit .ensures)
+    ∙ not-false _ (c .before .before .before .before .before .before .before .before .if1 .left)) in
     omega (arith, fits .few-slots)
 
 add-end : tie.Need-add-end
 add-end c =
     let a = c .before .before .before .before .before .before .before .before .before .before .before .args in
-    let fits = figures _ (a .capacity) (a .slots) (a .most) (sym (c .before .before .before .before .before .before .before .before .before .figures-fit .ensures) ∙ not-false _ (c .before .before .before .before .before .before .before .before .if1 .left)) in
+    let fits = figures _ (a .capacity) (a .slots) (a .most)
+    (sym (c .before .before .before .before .before .before .before .before .before .figures-fit .ensures)
+    ∙ not-false _ (c .before .before .before .before .before .before .before .before .if1 .left)) in
     omega (arith, fits .few-slots)
 
 add-end-2 : tie.Need-add-end-2
 add-end-2 c =
     let a = c .before .before .before .before .before .before .before .before .before .before .before .args in
-    let fits = figures _ (a .capacity) (a .slots) (a .most) (sym (c .before .before .before .before .before .before .before .before .before .figures-fit .ensures) ∙ not-false _ (c .before .before .before .before .before .before .before .before .if1 .left)) in
+    let fits = figures _ (a .capacity) (a .slots) (a .most)
+    (sym (c .before .before .before .before .before .before .before .before .before .figures-fit .ensures)
+    ∙ not-false _ (c .before .before .before .before .before .before .before .before .if1 .left)) in
     omega (arith, fits .few-slots)
 
 sub-renew : tie.Need-sub-renew
@@ -52,19 +65,30 @@ part-renew-start c = search needs
 part-renew-end : tie.Need-part-renew-end
 part-renew-end c =
     let a = c .before .before .before .before .before .before .before .before .before .before .before .args in
-    let fits = figures _ (a .capacity) (a .slots) (a .most) (sym (c .before .before .before .before .before .before .before .before .before .figures-fit .ensures) ∙ not-false _ (c .before .before .before .before .before .before .before .before .if1 .left)) in
-    omega (arith, create-room (a .capacity) (a .slots) (a .most) (a .file .now) fits, c .before .before .put-figures .kept, c .before .before .before .before .before .before .clear .kept)
+    let fits = figures _ (a .capacity) (a .slots) (a .most)
+    (sym (c .before .before .before .before .before .before .before .before .before .figures-fit .ensures)
+    ∙ not-false _ (c .before .before .before .before .before .before .before .before .if1 .left)) in
+    omega (
+      arith,
+      create-room (a .capacity) (a .slots) (a .most) (a .file .now) fits,
+      c .before .before .put-figures .kept,
+      c .before .before .before .before .before .before .clear .kept,
+    )
 
 cast-renew : tie.Need-cast-renew
 cast-renew c =
     let a = c .before .before .before .before .before .before .before .before .before .before .before .before .args in
-    let fits = figures _ (a .capacity) (a .slots) (a .most) (sym (c .before .before .before .before .before .before .before .before .before .before .figures-fit .ensures) ∙ not-false _ (c .before .before .before .before .before .before .before .before .before .if1 .left)) in
+    let fits = figures _ (a .capacity) (a .slots) (a .most)
+    (sym (c .before .before .before .before .before .before .before .before .before .before .figures-fit .ensures)
+    ∙ not-false _ (c .before .before .before .before .before .before .before .before .before .if1 .left)) in
     omega (arith, fits .few-slots)
 
 renew-requires : tie.Need-renew-requires
 renew-requires c κs =
     let a = c .before .before .before .before .before .before .before .before .before .before .before .before .args in
-    let fits = figures _ (a .capacity) (a .slots) (a .most) (sym (c .before .before .before .before .before .before .before .before .before .before .figures-fit .ensures) ∙ not-false _ (c .before .before .before .before .before .before .before .before .before .if1 .left)) in
+    let fits = figures _ (a .capacity) (a .slots) (a .most)
+    (sym (c .before .before .before .before .before .before .before .before .before .before .figures-fit .ensures)
+    ∙ not-false _ (c .before .before .before .before .before .before .before .before .before .if1 .left)) in
     (search needs, fits .few-slots, omega arith)
 
 same-length : tie.Need-same-length
@@ -75,7 +99,11 @@ returns-2 c =
     let a = c .before .before .before .before .before .before .before .before .before .before .before .before .before .before .before .args in
     let fits = figures _ (a .capacity) (a .slots) (a .most) (sym (c .before .before .before .before .before .before .before .before .before .before .before .before .before .figures-fit .ensures) ∙ not-false _ (c .before .before .before .before .before .before .before .before .before .before .before .before .if1 .left)) in
     create-done (a .file .now) _ (a .capacity) (a .slots) (a .most) (sym (c .before .before .before .before .before .before .before .before .before .before .before .before .before .figures-fit .ensures) ∙ not-false _ (c .before .before .before .before .before .before .before .before .before .before .before .before .if1 .left))
-    (created-bytes (a .capacity) (a .slots) (a .most) (a .file .now) fits (c .before .before .before .before .before .before .before .before .before .before .clear .last .0) (c .before .before .before .before .before .before .put-figures .last .0) (c .before .before .renew .last .0) (c .before .before .before .before .before .before .before .before .before .before .clear .ensures) (c .before .before .before .before .before .before .put-figures .ensures) (c .before .before .renew .ensures))
+    (created-written (a .capacity) (a .slots) (a .most) (a .file .now) fits
+    (c .before .before .before .before .before .before .before .before .before .before .clear .last .0)
+    (c .before .before .before .before .before .before .put-figures .last .0) (c .before .before .renew .last .0)
+    (c .before .before .before .before .before .before .before .before .before .before .clear .ensures)
+    (c .before .before .before .before .before .before .put-figures .ensures) (c .before .before .renew .ensures))
 
 pub create-spec : {M : Type 1} → statement M
 create-spec =

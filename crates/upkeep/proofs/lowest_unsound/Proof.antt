@@ -23,7 +23,8 @@ region-sound-requires c κs = search needs
 returns : tie.Need-returns Inv-loop μ-loop
 returns c =
     let l = c .before .before .before .loop in
-    lower-here (c .before .before .before .before .before .args .file .now) (l .region) (l .inv .1) (omega arith) (sym (c .before .region-sound .ensures) ∙ not-true _ (c .if1 .taken))
+    lower-here (c .before .before .before .before .before .args .file .now) (l .region) (l .inv .1) (omega arith)
+    (sym (c .before .region-sound .ensures) ∙ not-true _ (c .if1 .taken))
 
 add-region : tie.Need-add-region Inv-loop μ-loop
 add-region c = search needs
@@ -33,8 +34,11 @@ loop-less c = search needs
 
 loop-again : tie.Need-loop-again Inv-loop μ-loop
 loop-again c =
-    let l = c .before .before .before .loop in
-    (omega arith, lower-more (c .before .before .before .before .before .args .file .now) (l .region) (l .inv .1) (omega arith) (sym (c .before .region-sound .ensures) ∙ not-false _ (c .if1 .left)))
+    let l = c .before .before .before .loop in (
+      omega arith,
+      lower-more (c .before .before .before .before .before .args .file .now) (l .region) (l .inv .1)
+          (omega arith) (sym (c .before .region-sound .ensures) ∙ not-false _ (c .if1 .left)),
+    )
 
 returns-2 : tie.Need-returns-2 Inv-loop μ-loop
 returns-2 c =

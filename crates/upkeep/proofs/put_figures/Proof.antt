@@ -22,21 +22,43 @@ slice-write-file : tie.Need-slice-write-file
 slice-write-file c = search needs
 
 put2-requires : tie.Need-put2-requires
-put2-requires c κs = omega (arith, length-set (c .before .before .before .put .last .0) 3 (c .before .before .before .before .before .before .before .args .capacity), c .before .before .before .put .kept)
+put2-requires c κs = omega (
+  arith,
+  length-set (c .before .before .before .put .last .0) 3
+      (c .before .before .before .before .before .before .before .args .capacity),
+  c .before .before .before .put .kept,
+)
 
 cast-file-2 : tie.Need-cast-file-2
 cast-file-2 c = search needs
 
 slice-write-file-2 : tie.Need-slice-write-file-2
-slice-write-file-2 c = omega (arith, c .before .before .put2 .kept, length-set (c .before .before .before .before .before .before .put .last .0) 3 (c .before .before .before .before .before .before .before .before .before .before .args .capacity), c .before .before .before .before .before .before .put .kept)
+slice-write-file-2 c = omega (
+  arith,
+  c .before .before .put2 .kept,
+  length-set (c .before .before .before .before .before .before .put .last .0)
+      3 (c .before .before .before .before .before .before .before .before .before .before .args .capacity),
+  c .before .before .before .before .before .before .put .kept,
+)
 
 same-length : tie.Need-same-length
-same-length c = length-set (c .before .before .put2 .last .0) 8 (c .before .before .before .before .before .before .before .before .before .before .args .slots) ∙ omega (arith, c .before .before .put2 .kept, length-set (c .before .before .before .before .before .before .put .last .0) 3 (c .before .before .before .before .before .before .before .before .before .before .args .capacity), c .before .before .before .before .before .before .put .kept)
+same-length c = length-set (c .before .before .put2 .last .0) 8
+    (c .before .before .before .before .before .before .before .before .before .before .args .slots)
+    ∙ omega (
+      arith,
+      c .before .before .put2 .kept,
+      length-set (c .before .before .before .before .before .before .put .last .0)
+          3 (c .before .before .before .before .before .before .before .before .before .before .args .capacity),
+      c .before .before .before .before .before .before .put .kept,
+    )
 
 returns : tie.Need-returns
 returns c =
     let a = c .before .before .before .before .before .before .before .before .before .before .args in
-    ap (λ (l : List ℕ). set l 8 (a .slots)) (c .before .before .put2 .ensures ∙ ap (λ (l : List ℕ). edit 6 (leBytes 2 (a .most)) (set l 3 (a .capacity))) (c .before .before .before .before .before .before .put .ensures))
+    ap (λ (l : List ℕ). set l 8 (a .slots))
+    (c .before .before .put2 .ensures
+    ∙ ap (λ (l : List ℕ). edit 6 (leBytes 2 (a .most)) (set l 3 (a .capacity)))
+    (c .before .before .before .before .before .before .put .ensures))
 
 pub put-figures-spec : {M : Type 1} → statement M
 put-figures-spec =

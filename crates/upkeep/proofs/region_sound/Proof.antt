@@ -13,14 +13,26 @@ buckets-requires c κs = search needs
 bucket-sound-requires : tie.Need-bucket-sound-requires
 bucket-sound-requires c κs =
     let d = c .before .before .before in
-    let a = d .args in
-    (d .pre .0, omega (arith, buckets-known (a .file .now) (a .header) (d .pre .0) (c .before .buckets .result) (c .before .buckets .ensures)))
+    let a = d .args in (
+      d .pre .0,
+      omega (
+        arith,
+        buckets-known (a .file .now) (a .header) (d .pre .0) (c .before .buckets .result)
+            (c .before .buckets .ensures),
+      ),
+    )
 
 returns : tie.Need-returns
 returns c =
     let d = c .before .before .before .before in
     let a = d .args in
-    c .bucket-sound .ensures ∙ sym (region-bucket (a .file .now) (a .region) (omega (arith, buckets-known (a .file .now) (a .header) (d .pre .0) (c .before .before .buckets .result) (c .before .before .buckets .ensures))))
+    c .bucket-sound .ensures ∙ sym
+    (region-bucket (a .file .now) (a .region)
+    (omega (
+      arith,
+      buckets-known (a .file .now) (a .header) (d .pre .0) (c .before .before .buckets .result)
+          (c .before .before .buckets .ensures),
+    )))
 
 start-requires : tie.Need-start-requires
 start-requires c κs = search needs
@@ -47,7 +59,8 @@ part-is-zero-end : tie.Need-part-is-zero-end
 part-is-zero-end c =
     let d = c .before .before .before .before in
     let a = d .args in
-    known-fits (a .file .now) (a .header) (d .pre .0) (a .region) (c .start .result) (c .start .ensures .0) (omega arith)
+    known-fits (a .file .now) (a .header) (d .pre .0) (a .region) (c .start .result) (c .start .ensures .0)
+    (omega arith)
 
 is-zero-requires : tie.Need-is-zero-requires
 is-zero-requires c κs = search needs
@@ -56,8 +69,16 @@ returns-2 : tie.Need-returns-2
 returns-2 c =
     let d = c .before .before .before .before .before .before in
     let a = d .args in
-    c .is-zero .ensures ∙ ap allZero (known-cut (a .file .now) (a .header) (d .pre .0) (a .region) (c .before .before .start .result) (c .before .before .start .ensures .0))
-    ∙ sym (region-past (a .file .now) (a .region) (omega (arith, buckets-known (a .file .now) (a .header) (d .pre .0) (c .before .before .before .before .buckets .result) (c .before .before .before .before .buckets .ensures))))
+    c .is-zero .ensures ∙ ap allZero
+    (known-cut (a .file .now) (a .header) (d .pre .0) (a .region) (c .before .before .start .result)
+    (c .before .before .start .ensures .0))
+    ∙ sym
+    (region-past (a .file .now) (a .region)
+    (omega (
+      arith,
+      buckets-known (a .file .now) (a .header) (d .pre .0)
+          (c .before .before .before .before .buckets .result) (c .before .before .before .before .buckets .ensures),
+    )))
 
 pub region-sound-spec : {M : Type 1} → statement M
 region-sound-spec =

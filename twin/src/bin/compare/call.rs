@@ -1,6 +1,6 @@
 //! One call, the buffers lent to it, and the two sides that answer it.
 
-use twin::sides::{Side, SCANS};
+use twin::sides::Side;
 
 #[derive(Clone, Copy, Debug)]
 pub enum Call {
@@ -29,7 +29,7 @@ pub const KINDS: [Kind; 10] = [
     Kind { name: "search", replies: &[0, 1, 2, 3, 4, 5, 6, 7, 14] },
     Kind { name: "split", replies: &[0, 5, 7, 10] },
     Kind { name: "check", replies: &[0, 5, 7] },
-    Kind { name: "scan", replies: if SCANS { &[0, 2, 3, 4, 5, 6, 7, 11, 12] } else { &[] } },
+    Kind { name: "scan", replies: &[0, 2, 3, 4, 5, 6, 7, 11, 12] },
     // For these three: 0 where the answer is empty or none, otherwise 1.
     Kind { name: "view", replies: &[0, 1] },
     Kind { name: "parent", replies: &[0, 1] },
@@ -149,8 +149,7 @@ pub fn perform(side: &Side, call: &Call, lent: &mut Lent) -> Returned {
             [given.reply.into(), given.bucket.into(), 0, 0]
         }
         Call::Scan { client, lift } => {
-            let scan = side.scan.expect("a scan is called only where both sides have it");
-            let given = scan(file, table, client, lift, visits, matches);
+            let given = (side.scan)(file, table, client, lift, visits, matches);
             [given.reply.into(), given.bucket.into(), given.visits.into(), given.matches.into()]
         }
         Call::View { bucket } => {

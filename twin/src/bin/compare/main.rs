@@ -13,7 +13,7 @@ use std::process::ExitCode;
 use std::sync::atomic::{AtomicU64, Ordering};
 use std::thread;
 use twin::random::Random;
-use twin::sides::{LIBRARY, SCANS, TWIN};
+use twin::sides::{LIBRARY, TWIN};
 use world::World;
 
 const DEFAULT_CASES: u64 = 1_000_000;
@@ -197,8 +197,7 @@ fn random_call(world: &World, random: &mut Random) -> Call {
         30..=50 => Call::Search { client, key: world.key(random) },
         51..=63 => Call::Split,
         64..=73 => Call::Check,
-        74..=85 if SCANS => Call::Scan { client, lift: world.lift(random) },
-        74..=85 => Call::Search { client, key: world.key(random) },
+        74..=85 => Call::Scan { client, lift: world.lift(random) },
         86..=90 => Call::View { bucket: random_bucket(world, random) },
         91..=94 => Call::Join { client },
         95..=97 => random_create(world),

@@ -60,7 +60,8 @@ returns c =
     let made = one .before .before .before in
     let a = made .before .before .before .before .args in
     subst (λ (t : List ℕ). Wrote 0 t (a .out .now) (l .run-lines .last .1 .1 .1 .0) (l .run-lines .result))
-    (printed-is (a .input .now) _ _ _ _ _ (made .create .ensures) (one .join .ensures) (two .join2 .ensures) (three .join3 .ensures) (four .join4 .ensures))
+    (printed-is (a .input .now) _ _ _ _ _ (made .create .ensures) (one .join .ensures) (two .join2 .ensures)
+    (three .join3 .ensures) (four .join4 .ensures))
     (l .run-lines .ensures)
 
 pub run-spec : {M : Type 1} → statement M

@@ -10,7 +10,8 @@ use Rattle.ridefile.proofs.session.run_lines.Tie as tie
 
 abbrev Inv-loop : tie.InvT-loop
 Inv-loop input file₀ table₀ out₀ from₀ at₀ file table out from at =
-    Printing input file₀ table₀ out₀ from file table out at × (length file ≡ length file₀) × (length table ≡ length table₀) × (length out ≡ length out₀)
+    Printing input file₀ table₀ out₀ from file table out at × (length file ≡ length file₀)
+    × (length table ≡ length table₀) × (length out ≡ length out₀)
 
 abbrev μ-loop : tie.MeasureT-loop
 μ-loop input file₀ table₀ out₀ from₀ at₀ file table out from at = length input - from
@@ -38,7 +39,9 @@ same-length-3 c = search needs
 returns : tie.Need-returns Inv-loop μ-loop
 returns c =
     let l = c .before .before .before .before .before .before .before in
-    printing-cut (l .loop .inv .0) (omega arith) (sym (c .before .before .before .before .before .line-end .ensures .0) ∙ c .before .before .before .before .if1 .taken) (c .before .before .put-unknown .ensures)
+    printing-cut (l .loop .inv .0) (omega arith)
+    (sym (c .before .before .before .before .before .line-end .ensures .0)
+    ∙ c .before .before .before .before .if1 .taken) (c .before .before .put-unknown .ensures)
 
 sub-run-line : tie.Need-sub-run-line Inv-loop μ-loop
 sub-run-line c = search needs
@@ -62,8 +65,13 @@ loop-again : tie.Need-loop-again Inv-loop μ-loop
 loop-again c =
     let r = c .before .before .before .before .before .before in
     let e = r .before .before .before .before .before .before in
-    let l = e .before .before in
-    (printing-more (l .loop .inv .0) (e .line-end .result) (e .line-end .ensures .0) (omega arith) (r .run-line .ensures), search needs, search needs, search needs)
+    let l = e .before .before in (
+      printing-more (l .loop .inv .0) (e .line-end .result) (e .line-end .ensures .0) (omega arith)
+          (r .run-line .ensures),
+      search needs,
+      search needs,
+      search needs,
+    )
 
 same-length-4 : tie.Need-same-length-4 Inv-loop μ-loop
 same-length-4 c = search needs

@@ -10,19 +10,20 @@ use native.Mathlib.Omega.{arith}
 use borrow.Author.Tests.{ltb-true, ltb-false}
 use lib.Dec.{ltb}
 use lib.ListN.{length}
-use Rattle.address.specs.Limits.{firstBuckets}
+use Rattle.address.specs.Limits.{firstBuckets, mostLevel}
 use Rattle.address.specs.Rules.{Formed, NotAhead, buckets, address, imageAfter}
 use Rattle.address.specs.Rules.Cases.{buckets-is}
 use Rattle.address.specs.Rules.Adjust.{after-formed, after-behind, after-grows}
-use Rattle.address.specs.Rules.Route.{Below, delivered}
-use Rattle.layout.specs.Bytes.Tests.{and-both}
+use Rattle.address.specs.Rules.Route.{delivered}
 use Rattle.layout.specs.Replies.{reply}
+use Rattle.bucket.specs.Region.{every}
+use Rattle.bucket.specs.Region.Every.{every-below}
 use Rattle.client.specs.Table.{imageOf, recordSound, tableRefusals}
 use Rattle.client.specs.Table.Laws.{record-image, record-fits}
 use Rattle.file.specs.File.{mostOf, stateOf, bucketsOf, headerSound, bucketSoundIn, fileSound}
-use Rattle.file.specs.File.Judge.{header-ranges, buckets-of, state-small}
-use Rattle.file.specs.File.Kept.{sound-bucket}
-use Rattle.route.specs.Way.{early, everyOn, wayOf}
+use Rattle.file.specs.File.Judge.{header-ranges, buckets-of, existing, state-small}
+use Rattle.file.specs.File.Keeping.{sound-bucket}
+use Rattle.route.specs.Way.{early, wayOf}
 use Rattle.route.specs.Way.Open.{early-table, early-record, early-header, early-ahead}
 
 -- what a call that is not refused before its route has passed
@@ -33,7 +34,8 @@ pub record Passed (file table : List ℕ) (client : ℕ) : Type 0 where
   pub behind : buckets firstBuckets (imageOf table client) ≤ bucketsOf file
 
 pub passed : (file table : List ℕ) (client : ℕ) → reply (early file table client) 0 ≡ 0 → Passed file table client
-passed file table client none = record { there = record-fits table client passes; image-sound = recorded; header-sound = headed; behind = near }
+passed file table client none =
+    record { there = record-fits table client passes; image-sound = recorded; header-sound = headed; behind = near }
   where
     passes : reply (tableRefusals table client) 0 ≡ 0
     passes = by-cases (ℕ-discrete (reply (tableRefusals table client) 0) 0) (λ e. e)
@@ -56,17 +58,10 @@ passed file table client none = record { there = record-fits table client passes
     near : buckets firstBuckets (imageOf table client) ≤ bucketsOf file
     near = go (ltb (bucketsOf file) (buckets firstBuckets (imageOf table client))) refl
       where
-        go : (b : Bool) → ltb (bucketsOf file) (buckets firstBuckets (imageOf table client)) ≡ b → buckets firstBuckets (imageOf table client) ≤ bucketsOf file
+        go : (b : Bool) → ltb (bucketsOf file) (buckets firstBuckets (imageOf table client)) ≡ b
+            → buckets firstBuckets (imageOf table client) ≤ bucketsOf file
         go true e = absurd (omega (arith, early-ahead file table client passes recorded headed (ltb-true _ _ e), none))
         go false e = ltb-false _ _ e
-
-every-below : (test : ℕ → Bool) (most : ℕ) → ((a : ℕ) → a < most → test a ≡ true) → (way : List ℕ) → Below most way → everyOn test way ≡ true
-unfolding everyOn
-every-below test most each [] b = refl
-every-below test most each (a ∷ way) b = and-both (test a) (everyOn test way) (each a (b .0)) (every-below test most each way (b .1))
-
-pub existing : (file : List ℕ) → bucketsOf file ≡ buckets firstBuckets (stateOf file)
-existing file = buckets-of file ∙ sym (buckets-is firstBuckets (stateOf file))
 
 module _ (file table : List ℕ) (client : ℕ) (open-to : Passed file table client) where
   pub formed : Formed firstBuckets (stateOf file)
@@ -80,23 +75,32 @@ module _ (file table : List ℕ) (client : ℕ) (open-to : Passed file table cli
 
 module _ (file table : List ℕ) (client key : ℕ) (open-to : Passed file table client) where
   -- in a sound file no bucket on a route is unsound
-  pub route-sound : fileSound file ≡ true → everyOn (bucketSoundIn file) (wayOf file (imageOf table client) key) ≡ true
+  pub route-sound : fileSound file ≡ true → every (bucketSoundIn file) (wayOf file (imageOf table client) key) ≡ true
   unfolding wayOf
   route-sound sound =
-      let (h, short, d) = delivered firstBuckets (omega arith) (stateOf file) (formed file table client open-to) (imageOf table client) (believes file table client open-to) (near file table client open-to) key in
-      ap (everyOn (bucketSoundIn file)) (d .is)
-      ∙ every-below (bucketSoundIn file) (buckets firstBuckets (stateOf file)) (λ a l. sound-bucket file sound a (omega (arith, l, existing file))) (address firstBuckets (imageOf table client) key ∷ d .rest) (d .exist)
+      let (h, short, d) = delivered firstBuckets (omega arith) (stateOf file) (formed file table client open-to)
+      (imageOf table client) (believes file table client open-to) (near file table client open-to) key in
+      ap (every (bucketSoundIn file)) (d .is)
+      ∙ every-below (bucketSoundIn file) (buckets firstBuckets (stateOf file))
+      (λ a l. sound-bucket file sound a (omega (arith, l, existing file)))
+      (address firstBuckets (imageOf table client) key ∷ d .rest) (d .exist)
 
   -- the image that a call writes
   pub written-formed : Formed firstBuckets (imageAfter firstBuckets (stateOf file) (imageOf table client) key)
-  written-formed = after-formed firstBuckets (omega arith) (stateOf file) (formed file table client open-to) (imageOf table client) (believes file table client open-to) (near file table client open-to) key
+  written-formed = after-formed firstBuckets (omega arith) (stateOf file) (formed file table client open-to)
+      (imageOf table client) (believes file table client open-to) (near file table client open-to) key
 
-  pub written-behind : NotAhead firstBuckets (stateOf file) (imageAfter firstBuckets (stateOf file) (imageOf table client) key)
-  written-behind = after-behind firstBuckets (omega arith) (stateOf file) (formed file table client open-to) (imageOf table client) (believes file table client open-to) (near file table client open-to) key
+  pub written-behind : NotAhead firstBuckets (stateOf file)
+      (imageAfter firstBuckets (stateOf file) (imageOf table client) key)
+  written-behind = after-behind firstBuckets (omega arith) (stateOf file) (formed file table client open-to)
+      (imageOf table client) (believes file table client open-to) (near file table client open-to) key
 
-  pub written-grows : buckets firstBuckets (imageOf table client) ≤ buckets firstBuckets (imageAfter firstBuckets (stateOf file) (imageOf table client) key)
-  written-grows = after-grows firstBuckets (omega arith) (stateOf file) (formed file table client open-to) (imageOf table client) (believes file table client open-to) (near file table client open-to) key
+  pub written-grows : buckets firstBuckets (imageOf table client)
+      ≤ buckets firstBuckets (imageAfter firstBuckets (stateOf file) (imageOf table client) key)
+  written-grows = after-grows firstBuckets (omega arith) (stateOf file) (formed file table client open-to)
+      (imageOf table client) (believes file table client open-to) (near file table client open-to) key
 
-  pub written-low : imageAfter firstBuckets (stateOf file) (imageOf table client) key .level ≤ 12
-  written-low = state-small (imageAfter firstBuckets (stateOf file) (imageOf table client) key) (mostOf file) (header-ranges file (open-to .header-sound) .figured .few-buckets) written-formed
+  pub written-low : imageAfter firstBuckets (stateOf file) (imageOf table client) key .level ≤ mostLevel
+  written-low = state-small (imageAfter firstBuckets (stateOf file) (imageOf table client) key) (mostOf file)
+      (header-ranges file (open-to .header-sound) .figured .few-buckets) written-formed
       (omega (arith, written-behind, existing file, header-ranges file (open-to .header-sound) .few)) .0

@@ -11,7 +11,7 @@ use native.Mathlib.Omega.{arith}
 use borrow.Author.Tests.{lt-ltb, ltb-true, le-leb}
 use lib.Dec.{leb, ltb, eqb}
 use lib.ListN.{length, getD}
-use Rattle.address.specs.Limits.{firstBuckets, mostLevel}
+use Rattle.address.specs.Limits.{firstBuckets, mostLevel, mostTable}
 use Rattle.address.specs.declared.Image.{Image}
 use Rattle.address.specs.Rules.{Formed, span}
 use Rattle.address.specs.Rules.Hash.{span-is, span-mono}
@@ -20,16 +20,19 @@ use Rattle.layout.specs.Bytes.Tests.{and-left, and-right, and-both, all-at, all
 use Rattle.layout.specs.Bytes.Edit.{length-edit, edit-before, edit-in, edit-after}
 use Rattle.layout.specs.Bytes.Numbers.{le-two, leBytes-two}
 use Rattle.layout.specs.Replies.{reply}
-use Rattle.client.specs.Table.{lengthSound, exists, imageOf, recordFormed, imageFormed, recordSound, tableSound, tableRefusals, imageBytes, withImage}
+use Rattle.client.specs.Table.{lengthSound, exists, imageOf, recordFormed, imageFormed, recordSound, tableSound}
+use Rattle.client.specs.Table.{tableRefusals, imageBytes, withImage}
 use Rattle.client.specs.Table.Laws.{not-refused}
 
 -- the eight bytes of an image
-bytes-is : (image : Image) → imageBytes image ≡ 76 ∷ 67 ∷ image .level ∷ 0 ∷ image .pointer % 256 ∷ image .pointer / 256 % 256 ∷ 0 ∷ 0 ∷ []
+bytes-is : (image : Image) → imageBytes image
+    ≡ 76 ∷ 67 ∷ image .level ∷ 0 ∷ image .pointer % 256 ∷ image .pointer / 256 % 256 ∷ 0 ∷ 0 ∷ []
 unfolding imageBytes
 bytes-is image = rw (leBytes-two (image .pointer))
 
 -- two records of the same bytes have the same image, and are judged alike
-module _ (table other : List ℕ) (client : ℕ) (same : (k : ℕ) → k < 8 → getD other (8 * client + k) 0 ≡ getD table (8 * client + k) 0) where
+module _ (table other : List ℕ) (client : ℕ)
+    (same : (k : ℕ) → k < 8 → getD other (8 * client + k) 0 ≡ getD table (8 * client + k) 0) where
   image-same : imageOf other client ≡ imageOf table client
   unfolding imageOf
   image-same = λ i. record { level = same 2 (omega arith) i; pointer = number i }
@@ -41,20 +44,25 @@ module _ (table other : List ℕ) (client : ℕ) (same : (k : ℕ) → k < 8 →
           next = omega arith
 
       number : leAt 2 other (8 * client + 4) ≡ leAt 2 table (8 * client + 4)
-      number = sym (le-two other (8 * client + 4)) ∙ ap₂ (λ (x y : ℕ). x + y * 256) (same 4 (omega arith)) (later other ∙ same 5 (omega arith) ∙ sym (later table)) ∙ le-two table (8 * client + 4)
+      number = sym (le-two other (8 * client + 4))
+          ∙ ap₂ (λ (x y : ℕ). x + y * 256) (same 4 (omega arith))
+          (later other ∙ same 5 (omega arith) ∙ sym (later table)) ∙ le-two table (8 * client + 4)
 
   record-same : recordSound other client ≡ recordSound table client
   unfolding recordSound recordFormed
   record-same =
       ap₂ _&&_
       (ap₂ _&&_
-      (ap₂ _&&_ (ap₂ _&&_ (ap₂ _&&_ (ap (λ (x : ℕ). eqb x 76) first) (ap (λ (x : ℕ). eqb x 67) (same 1 (omega arith)))) (ap (λ (x : ℕ). eqb x 0) (same 3 (omega arith))))
+      (ap₂ _&&_
+      (ap₂ _&&_ (ap₂ _&&_ (ap (λ (x : ℕ). eqb x 76) first) (ap (λ (x : ℕ). eqb x 67) (same 1 (omega arith))))
+      (ap (λ (x : ℕ). eqb x 0) (same 3 (omega arith))))
       (ap (λ (x : ℕ). eqb x 0) (same 6 (omega arith))))
       (ap (λ (x : ℕ). eqb x 0) (same 7 (omega arith))))
       (ap imageFormed image-same)
     where
       first : getD other (8 * client) 0 ≡ getD table (8 * client) 0
-      first = ap (λ (i : ℕ). getD other i 0) (sym (add-zero (8 * client))) ∙ same 0 (omega arith) ∙ ap (λ (i : ℕ). getD table i 0) (add-zero (8 * client))
+      first = ap (λ (i : ℕ). getD other i 0) (sym (add-zero (8 * client))) ∙ same 0 (omega arith)
+          ∙ ap (λ (i : ℕ). getD table i 0) (add-zero (8 * client))
 
 module _ (table : List ℕ) (client : ℕ) (image : Image) (fits : 8 * client + 8 ≤ length table) where
   long : length (imageBytes image) ≡ 8
@@ -75,7 +83,8 @@ module _ (table : List ℕ) (client : ℕ) (image : Image) (fits : 8 * client + 
   byte-here : (k : ℕ) → k < 8 → getD (withImage table client image) (8 * client + k) 0
       ≡ getD (76 ∷ 67 ∷ image .level ∷ 0 ∷ image .pointer % 256 ∷ image .pointer / 256 % 256 ∷ 0 ∷ 0 ∷ []) k 0
   unfolding withImage
-  byte-here k h = edit-in (8 * client) (imageBytes image) table room k (omega (arith, long)) ∙ ap (λ (l : List ℕ). getD l k 0) (bytes-is image)
+  byte-here k h = edit-in (8 * client) (imageBytes image) table room k (omega (arith, long))
+      ∙ ap (λ (l : List ℕ). getD l k 0) (bytes-is image)
 
   -- every other record stays as it was, byte by byte
   module _ (other : ℕ) (apart : other ≡ client → ⊥) where
@@ -106,7 +115,8 @@ module _ (table : List ℕ) (client : ℕ) (image : Image) (fits : 8 * client + 
             next = omega arith
 
         number : leAt 2 (withImage table client image) (8 * client + 4) ≡ image .pointer
-        number = sym (le-two (withImage table client image) (8 * client + 4)) ∙ ap₂ (λ (x y : ℕ). x + y * 256) (byte-here 4 (omega arith)) second ∙ omega (arith, small)
+        number = sym (le-two (withImage table client image) (8 * client + 4))
+            ∙ ap₂ (λ (x y : ℕ). x + y * 256) (byte-here 4 (omega arith)) second ∙ omega (arith, small)
 
     pub written-sound : recordSound (withImage table client image) client ≡ true
     unfolding recordSound recordFormed imageFormed
@@ -125,23 +135,30 @@ module _ (table : List ℕ) (client : ℕ) (image : Image) (fits : 8 * client + 
     pub table-kept : tableSound table ≡ true → tableSound (withImage table client image) ≡ true
     unfolding tableSound lengthSound
     table-kept h = and-both _ _
-        (ap (λ (n : ℕ). ltb 0 n && leb n 2048 && eqb (n % 8) 0) written-length ∙ and-left _ _ h)
+        (ap (λ (n : ℕ). ltb 0 n && leb n mostTable && eqb (n % 8) 0) written-length ∙ and-left _ _ h)
         (all-of (recordSound (withImage table client image)) (length (withImage table client image) / 8) each)
       where
-        each : (k : ℕ) → k < length (withImage table client image) / 8 → recordSound (withImage table client image) k ≡ true
+        each : (k : ℕ) → k < length (withImage table client image) / 8
+            → recordSound (withImage table client image) k ≡ true
         each k l = by-cases (ℕ-discrete k client)
             (λ e. ap (recordSound (withImage table client image)) e ∙ written-sound)
-            (λ apart. written-other k apart ∙ all-at (recordSound table) (length table / 8) k (and-right (lengthSound table) _ h) (omega (arith, l, ap (λ (n : ℕ). n / 8) written-length)))
+            (λ apart. written-other k apart
+            ∙ all-at (recordSound table) (length table / 8) k (and-right (lengthSound table) _ h)
+            (omega (arith, l, ap (λ (n : ℕ). n / 8) written-length)))
 
--- a sound table has a sound length and sound records; where the length is sound, 2 and 3 do not refuse a client of the table
-pub sound-record : (table : List ℕ) → tableSound table ≡ true → (client : ℕ) → exists table client ≡ true → recordSound table client ≡ true
+-- a sound table has a sound length and sound records; where the length is sound, 2 and 3 do not refuse a client of the
+-- table
+pub sound-record : (table : List ℕ) → tableSound table ≡ true → (client : ℕ) → exists table client ≡ true
+    → recordSound table client ≡ true
 unfolding tableSound exists
-sound-record table sound client there = all-at (recordSound table) (length table / 8) client (and-right (lengthSound table) _ sound) (ltb-true _ _ there)
+sound-record table sound client there = all-at (recordSound table) (length table / 8) client
+    (and-right (lengthSound table) _ sound) (ltb-true _ _ there)
 
 pub sound-length : (table : List ℕ) → tableSound table ≡ true → lengthSound table ≡ true
 unfolding tableSound
 sound-length table sound = and-left (lengthSound table) _ sound
 
-pub client-passes : (table : List ℕ) → lengthSound table ≡ true → (client : ℕ) → exists table client ≡ true → reply (tableRefusals table client) 0 ≡ 0
+pub client-passes : (table : List ℕ) → lengthSound table ≡ true → (client : ℕ) → exists table client ≡ true
+    → reply (tableRefusals table client) 0 ≡ 0
 unfolding exists
 client-passes table long client there = not-refused table client long (ltb-true _ _ there)

@@ -10,24 +10,28 @@ use native.Mathlib.Omega.{arith}
 use borrow.Author.Tests.{lt-ltb}
 use lib.Dec.{ltb}
 use lib.ListN.{length, length-append}
-use Rattle.address.specs.Limits.{firstBuckets}
+use Rattle.address.specs.Limits.{firstBuckets, mostLevel, mostBuckets}
 use Rattle.address.specs.declared.Image.{Image}
-use Rattle.address.specs.Rules.{Formed, address, level, buckets, keeps, newborn, grown}
+use Rattle.address.specs.Rules.{Formed, address, level, buckets, keeps, splitting, newborn, grown}
 use Rattle.address.specs.Rules.Cases.{level-high}
 use Rattle.address.specs.Rules.Hash.{span-pos}
 use Rattle.address.specs.Rules.Grow.{newborn-next, grown-formed, grown-buckets, level-old, level-newborn, level-other}
 use Rattle.layout.specs.Bytes.{Bytes, allBelow, allZero}
 use Rattle.layout.specs.Bytes.Tests.{and-left, and-right, and-both, all-at, all-of}
-use Rattle.bucket.specs.Region.{Ride, Whole, slotAt, countOf, ridesOf, keysOf, distinct, slotOf, bucketSound, encode, kept}
+use Rattle.bucket.specs.Region.{Ride, Whole, slotAt, countOf, ridesOf, keysOf, distinct, slotOf, bucketSound, encode}
+use Rattle.bucket.specs.Region.{kept}
 use Rattle.bucket.specs.Region.Rides.{AllWhole, whole-append, kept-whole, kept-lengths}
 use Rattle.bucket.specs.Region.Sound.{rides-encode}
 use Rattle.bucket.specs.Region.Encode.{length-encode}
 use Rattle.bucket.specs.Region.Held.{encode-bytes}
 use Rattle.bucket.specs.Region.Keep.{bucket-placed, bucket-divided, bucket-alike}
-use Rattle.file.specs.File.{mostOf, slotsOf, stateOf, bucketsOf, headerSound, regionOf, bucketSoundIn, regionSound, fileSound, withRegion, withRide, withState, staying, divided}
+use Rattle.file.specs.File.{mostOf, slotsOf, stateOf, bucketsOf, headerSound, regionOf, bucketSoundIn}
+use Rattle.file.specs.File.{regionSound, fileSound, withRegion, withRide, withState, staying, divided}
 use Rattle.file.specs.File.Judge.{Ranges, header-ranges, buckets-of, state-back, state-small}
 use Rattle.file.specs.File.Region.{region-bucket, region-past}
-use Rattle.file.specs.File.Write.{Shown, shown, with-slots, with-state, with-sound, with-most, with-here, with-other, with-bytes, state-slots, state-most, state-back-again, state-header, state-region, state-bytes}
+use Rattle.file.specs.File.Write.{Shown, shown, with-slots, with-state, with-sound, with-most, with-here}
+use Rattle.file.specs.File.Write.{with-other, with-bytes, state-slots, state-most, state-back-again, state-header}
+use Rattle.file.specs.File.Write.{state-region, state-bytes}
 use Rattle.file.specs.File.Split.{moves}
 
 -- a sound file's header and regions
@@ -41,26 +45,34 @@ sound-region file h a l = all-at (regionSound file) (mostOf file) a (and-right (
 
 -- in a sound file every bucket is sound
 pub sound-bucket : (file : List ℕ) → fileSound file ≡ true → (a : ℕ) → a < bucketsOf file → bucketSoundIn file a ≡ true
-sound-bucket file h a l = sym (region-bucket file a l) ∙ sound-region file h a (omega (arith, header-ranges file (sound-header file h) .few))
+sound-bucket file h a l = sym (region-bucket file a l)
+    ∙ sound-region file h a (omega (arith, header-ranges file (sound-header file h) .few))
 
 -- a region is judged by the state, the slots and its own bytes
-judged-alike : (file other : List ℕ) (a : ℕ) → stateOf other ≡ stateOf file → slotsOf other ≡ slotsOf file → regionOf other a ≡ regionOf file a
+judged-alike : (file other : List ℕ) (a : ℕ) → stateOf other ≡ stateOf file → slotsOf other ≡ slotsOf file
+    → regionOf other a ≡ regionOf file a
     → regionSound other a ≡ regionSound file a
 unfolding regionSound bucketSoundIn bucketsOf
 judged-alike file other a es eS er =
-    ap₂ (λ (s : Image) (S : ℕ). cond (ltb a (buckets firstBuckets s)) (bucketSound firstBuckets s S a (regionOf other a)) (allZero (regionOf other a))) es eS
-    ∙ ap (λ (r : List ℕ). cond (ltb a (buckets firstBuckets (stateOf file))) (bucketSound firstBuckets (stateOf file) (slotsOf file) a r) (allZero r)) er
+    ap₂ (λ (s : Image) (S : ℕ). cond (ltb a (buckets firstBuckets s))
+    (bucketSound firstBuckets s S a (regionOf other a)) (allZero (regionOf other a))) es eS
+    ∙ ap (λ (r : List ℕ). cond (ltb a (buckets firstBuckets (stateOf file)))
+    (bucketSound firstBuckets (stateOf file) (slotsOf file) a r) (allZero r)) er
 
-judged-bucket : (other : List ℕ) (a S : ℕ) (s : Image) (region : List ℕ) → stateOf other ≡ s → slotsOf other ≡ S → regionOf other a ≡ region
+judged-bucket : (other : List ℕ) (a S : ℕ) (s : Image) (region : List ℕ) → stateOf other ≡ s → slotsOf other ≡ S
+    → regionOf other a ≡ region
     → a < buckets firstBuckets s → bucketSound firstBuckets s S a region ≡ true → regionSound other a ≡ true
 unfolding regionSound bucketSoundIn bucketsOf
 judged-bucket other a S s region es eS er exists h =
-    ap₂ (λ (t : Image) (T : ℕ). cond (ltb a (buckets firstBuckets t)) (bucketSound firstBuckets t T a (regionOf other a)) (allZero (regionOf other a))) es eS
+    ap₂ (λ (t : Image) (T : ℕ). cond (ltb a (buckets firstBuckets t))
+    (bucketSound firstBuckets t T a (regionOf other a)) (allZero (regionOf other a))) es eS
     ∙ ap (λ (r : List ℕ). cond (ltb a (buckets firstBuckets s)) (bucketSound firstBuckets s S a r) (allZero r)) er
     ∙ rw (lt-ltb a (buckets firstBuckets s) exists) h
 
-module _ (file : List ℕ) (bytes : Bytes file) (sound : fileSound file ≡ true) (ride : Ride) (whole : Whole ride) (a : ℕ) (own : address firstBuckets (stateOf file) (ride .key) ≡ a)
-    (exists : a < bucketsOf file) (fresh : slotOf (regionOf file a) (ride .key) ≡ countOf (regionOf file a)) (room : countOf (regionOf file a) < slotsOf file) where
+module _ (file : List ℕ) (bytes : Bytes file) (sound : fileSound file ≡ true) (ride : Ride) (whole : Whole ride) (a : ℕ)
+    (own : address firstBuckets (stateOf file) (ride .key) ≡ a)
+    (exists : a < bucketsOf file) (fresh : slotOf (regionOf file a) (ride .key) ≡ countOf (regionOf file a))
+    (room : countOf (regionOf file a) < slotsOf file) where
   seen : Ranges file
   seen = header-ranges file (sound-header file sound)
 
@@ -90,7 +102,8 @@ module _ (file : List ℕ) (bytes : Bytes file) (sound : fileSound file ≡ true
 
   here-sound : bucketSound firstBuckets (stateOf file) (slotsOf file) a region ≡ true
   unfolding region rides bucketSoundIn
-  here-sound = bucket-placed firstBuckets (stateOf file) (slotsOf file) a (regionOf file a) (bucket .bytes) (bucket .long) (omega (arith, seen .figured .few-slots))
+  here-sound = bucket-placed firstBuckets (stateOf file) (slotsOf file) a (regionOf file a) (bucket .bytes)
+      (bucket .long) (omega (arith, seen .figured .few-slots))
       (sound-bucket file sound a exists) ride whole own fresh room
 
   within-state : a < buckets firstBuckets (stateOf file)
@@ -100,24 +113,29 @@ module _ (file : List ℕ) (bytes : Bytes file) (sound : fileSound file ≡ true
   each : (b : ℕ) → b < mostOf (withRegion file a region) → regionSound (withRegion file a region) b ≡ true
   each b l = by-cases (ℕ-discrete b a)
       (λ e. ap (regionSound (withRegion file a region)) e ∙ here)
-      (λ other. judged-alike file (withRegion file a region) b (with-state file seen a there region long) (with-slots file seen a there region long)
+      (λ other. judged-alike file (withRegion file a region) b (with-state file seen a there region long)
+      (with-slots file seen a there region long)
       (with-other file seen a there region long b within other) ∙ sound-region file sound b within)
     where
       within : b < mostOf file
       within = omega (arith, l, with-most file seen a there region long)
 
       here : regionSound (withRegion file a region) a ≡ true
-      here = judged-bucket (withRegion file a region) a (slotsOf file) (stateOf file) region (with-state file seen a there region long) (with-slots file seen a there region long)
+      here = judged-bucket (withRegion file a region) a (slotsOf file) (stateOf file) region
+          (with-state file seen a there region long) (with-slots file seen a there region long)
           (with-here file seen a there region long) within-state here-sound
 
   pub ride-kept : fileSound (withRide file a ride) ≡ true
   unfolding fileSound withRide region rides
-  ride-kept = and-both _ _ (with-sound file seen a there region long ∙ sound-header file sound) (all-of (regionSound (withRegion file a region)) (mostOf (withRegion file a region)) each)
+  ride-kept = and-both _ _ (with-sound file seen a there region long ∙ sound-header file sound)
+      (all-of (regionSound (withRegion file a region)) (mostOf (withRegion file a region)) each)
 
   -- what is held then: what was, and the ride behind it; every other region as it was
   pub ride-held : ridesOf (regionOf (withRide file a ride) a) ≡ ridesOf (regionOf file a) ++ (ride ∷ [])
   unfolding withRide region rides
-  ride-held = ap ridesOf (with-here file seen a there region long) ∙ rides-encode (slotsOf file) (level firstBuckets (stateOf file) a) rides all few (omega (arith, seen .figured .few-slots))
+  ride-held = ap ridesOf (with-here file seen a there region long)
+      ∙ rides-encode (slotsOf file) (level firstBuckets (stateOf file) a) rides all few
+      (omega (arith, seen .figured .few-slots))
 
   pub others-held : (b : ℕ) → b < mostOf file → (b ≡ a → ⊥) → regionOf (withRide file a ride) b ≡ regionOf file b
   unfolding withRide region rides
@@ -130,18 +148,21 @@ module _ (file : List ℕ) (bytes : Bytes file) (sound : fileSound file ≡ true
 
   pub ride-bytes : Bytes (withRide file a ride)
   unfolding withRide region rides
-  ride-bytes = with-bytes file seen a there region long (encode-bytes (slotsOf file) (level firstBuckets (stateOf file) a) rides (omega (arith, level-high firstBuckets (stateOf file) a, seen .low)) all) bytes
+  ride-bytes = with-bytes file seen a there region long
+      (encode-bytes (slotsOf file) (level firstBuckets (stateOf file) a) rides
+      (omega (arith, level-high firstBuckets (stateOf file) a, seen .low)) all) bytes
 
 -- ---- split
 
-module _ (file : List ℕ) (bytes : Bytes file) (sound : fileSound file ≡ true) (more : bucketsOf file < mostOf file) where
+module _ (file : List ℕ) (bytes : Bytes file) (sound : fileSound file ≡ true)
+    (more : bucketsOf file < mostOf file) where
   ranges : Ranges file
   ranges = header-ranges file (sound-header file sound)
 
   few-slots : slotsOf file < 65536
   few-slots = omega (arith, ranges .figured .few-slots)
 
-  old-there : stateOf file .pointer < bucketsOf file
+  old-there : splitting (stateOf file) < bucketsOf file
   old-there = omega (arith, buckets-of file, ranges .formed, span-pos firstBuckets (omega arith) (stateOf file .level))
 
   new-there : newborn firstBuckets (stateOf file) ≡ bucketsOf file
@@ -156,10 +177,11 @@ module _ (file : List ℕ) (bytes : Bytes file) (sound : fileSound file ≡ true
   next-buckets = grown-buckets firstBuckets (omega arith) (stateOf file) (ranges .formed)
 
   source : List ℕ
-  source = regionOf file (stateOf file .pointer)
+  source = regionOf file (splitting (stateOf file))
 
-  old : Shown file (stateOf file .pointer)
-  old = shown file ranges bytes (stateOf file .pointer) old-there (sound-bucket file sound (stateOf file .pointer) old-there)
+  old : Shown file (splitting (stateOf file))
+  old = shown file ranges bytes (splitting (stateOf file)) old-there
+      (sound-bucket file sound (splitting (stateOf file)) old-there)
 
   source-whole : AllWhole (ridesOf source)
   unfolding source
@@ -174,41 +196,48 @@ module _ (file : List ℕ) (bytes : Bytes file) (sound : fileSound file ≡ true
   source-single = old .parts .single
 
   half : ℕ → List ℕ
-  half a = encode (slotsOf file) (suc (stateOf file .level)) (kept (keeps firstBuckets a (suc (stateOf file .level))) (ridesOf source))
+  half a = encode (slotsOf file) (suc (stateOf file .level))
+      (kept (keeps firstBuckets a (suc (stateOf file .level))) (ridesOf source))
 
   half-long : (a : ℕ) → length (half a) ≡ slotAt (slotsOf file)
   unfolding half
-  half-long a = length-encode (slotsOf file) (suc (stateOf file .level)) (kept (keeps firstBuckets a (suc (stateOf file .level))) (ridesOf source))
+  half-long a = length-encode (slotsOf file) (suc (stateOf file .level))
+      (kept (keeps firstBuckets a (suc (stateOf file .level))) (ridesOf source))
       (kept-whole (keeps firstBuckets a (suc (stateOf file .level))) (ridesOf source) source-whole)
       (omega (arith, kept-lengths (keeps firstBuckets a (suc (stateOf file .level))) (ridesOf source), source-few))
 
-  half-sound : (a : ℕ) → a < suc (bucketsOf file) → level firstBuckets (grown firstBuckets (stateOf file)) a ≡ suc (stateOf file .level)
+  half-sound : (a : ℕ) → a < suc (bucketsOf file)
+      → level firstBuckets (grown firstBuckets (stateOf file)) a ≡ suc (stateOf file .level)
       → bucketSound firstBuckets (grown firstBuckets (stateOf file)) (slotsOf file) a (half a) ≡ true
   unfolding half
-  half-sound a l e = bucket-divided firstBuckets (omega arith) (grown firstBuckets (stateOf file)) next-formed (slotsOf file) a (suc (stateOf file .level))
+  half-sound a l e = bucket-divided firstBuckets (omega arith) (grown firstBuckets (stateOf file)) next-formed
+      (slotsOf file) a (suc (stateOf file .level))
       (omega (arith, next-buckets)) e (ridesOf source) source-whole source-few few-slots source-single
 
   -- the file with the first half, with both, and with the next state
   one : List ℕ
-  one = withRegion file (stateOf file .pointer) (half (stateOf file .pointer))
+  one = withRegion file (splitting (stateOf file)) (half (splitting (stateOf file)))
 
   two : List ℕ
   two = withRegion one (newborn firstBuckets (stateOf file)) (half (newborn firstBuckets (stateOf file)))
 
-  old-in : stateOf file .pointer < mostOf file
+  old-in : splitting (stateOf file) < mostOf file
   old-in = omega (arith, old-there)
 
   one-slots : slotsOf one ≡ slotsOf file
   unfolding one
-  one-slots = with-slots file ranges (stateOf file .pointer) old-in (half (stateOf file .pointer)) (half-long (stateOf file .pointer))
+  one-slots = with-slots file ranges (splitting (stateOf file)) old-in (half (splitting (stateOf file)))
+      (half-long (splitting (stateOf file)))
 
   one-most : mostOf one ≡ mostOf file
   unfolding one
-  one-most = with-most file ranges (stateOf file .pointer) old-in (half (stateOf file .pointer)) (half-long (stateOf file .pointer))
+  one-most = with-most file ranges (splitting (stateOf file)) old-in (half (splitting (stateOf file)))
+      (half-long (splitting (stateOf file)))
 
   one-sound : headerSound one ≡ true
   unfolding one
-  one-sound = with-sound file ranges (stateOf file .pointer) old-in (half (stateOf file .pointer)) (half-long (stateOf file .pointer)) ∙ sound-header file sound
+  one-sound = with-sound file ranges (splitting (stateOf file)) old-in (half (splitting (stateOf file)))
+      (half-long (splitting (stateOf file))) ∙ sound-header file sound
 
   new-in : newborn firstBuckets (stateOf file) < mostOf one
   new-in = omega (arith, new-there, one-most)
@@ -218,35 +247,45 @@ module _ (file : List ℕ) (bytes : Bytes file) (sound : fileSound file ≡ true
 
   two-slots : slotsOf two ≡ slotsOf file
   unfolding two
-  two-slots = with-slots one (header-ranges one one-sound) (newborn firstBuckets (stateOf file)) new-in (half (newborn firstBuckets (stateOf file))) new-long ∙ one-slots
+  two-slots = with-slots one (header-ranges one one-sound) (newborn firstBuckets (stateOf file)) new-in
+      (half (newborn firstBuckets (stateOf file))) new-long ∙ one-slots
 
   two-most : mostOf two ≡ mostOf file
   unfolding two
-  two-most = with-most one (header-ranges one one-sound) (newborn firstBuckets (stateOf file)) new-in (half (newborn firstBuckets (stateOf file))) new-long ∙ one-most
+  two-most = with-most one (header-ranges one one-sound) (newborn firstBuckets (stateOf file)) new-in
+      (half (newborn firstBuckets (stateOf file))) new-long ∙ one-most
 
   two-sound : headerSound two ≡ true
   unfolding two
-  two-sound = with-sound one (header-ranges one one-sound) (newborn firstBuckets (stateOf file)) new-in (half (newborn firstBuckets (stateOf file))) new-long ∙ one-sound
+  two-sound = with-sound one (header-ranges one one-sound) (newborn firstBuckets (stateOf file)) new-in
+      (half (newborn firstBuckets (stateOf file))) new-long ∙ one-sound
 
   two-new : regionOf two (newborn firstBuckets (stateOf file)) ≡ half (newborn firstBuckets (stateOf file))
   unfolding two
-  two-new = with-here one (header-ranges one one-sound) (newborn firstBuckets (stateOf file)) new-in (half (newborn firstBuckets (stateOf file))) new-long
+  two-new = with-here one (header-ranges one one-sound) (newborn firstBuckets (stateOf file)) new-in
+      (half (newborn firstBuckets (stateOf file))) new-long
 
   two-rest : (b : ℕ) → b < mostOf file → (b ≡ newborn firstBuckets (stateOf file) → ⊥) → regionOf two b ≡ regionOf one b
   unfolding two
-  two-rest b l other = with-other one (header-ranges one one-sound) (newborn firstBuckets (stateOf file)) new-in (half (newborn firstBuckets (stateOf file))) new-long b (omega (arith, one-most)) other
+  two-rest b l other = with-other one (header-ranges one one-sound) (newborn firstBuckets (stateOf file)) new-in
+      (half (newborn firstBuckets (stateOf file))) new-long b (omega (arith, one-most)) other
 
-  two-old : regionOf two (stateOf file .pointer) ≡ half (stateOf file .pointer)
+  two-old : regionOf two (splitting (stateOf file)) ≡ half (splitting (stateOf file))
   unfolding one
-  two-old = two-rest (stateOf file .pointer) old-in (λ e. omega (arith, e, old-there, new-there))
-      ∙ with-here file ranges (stateOf file .pointer) old-in (half (stateOf file .pointer)) (half-long (stateOf file .pointer))
+  two-old = two-rest (splitting (stateOf file)) old-in (λ e. omega (arith, e, old-there, new-there))
+      ∙ with-here file ranges (splitting (stateOf file)) old-in (half (splitting (stateOf file)))
+      (half-long (splitting (stateOf file)))
 
-  two-other : (b : ℕ) → b < mostOf file → (b ≡ newborn firstBuckets (stateOf file) → ⊥) → (b ≡ stateOf file .pointer → ⊥) → regionOf two b ≡ regionOf file b
+  two-other : (b : ℕ) → b < mostOf file → (b ≡ newborn firstBuckets (stateOf file) → ⊥)
+      → (b ≡ splitting (stateOf file) → ⊥) → regionOf two b ≡ regionOf file b
   unfolding one
-  two-other b l other apart = two-rest b l other ∙ with-other file ranges (stateOf file .pointer) old-in (half (stateOf file .pointer)) (half-long (stateOf file .pointer)) b l apart
+  two-other b l other apart = two-rest b l other
+      ∙ with-other file ranges (splitting (stateOf file)) old-in (half (splitting (stateOf file)))
+      (half-long (splitting (stateOf file))) b l apart
 
-  next-small : (grown firstBuckets (stateOf file) .level ≤ 12) × (grown firstBuckets (stateOf file) .pointer ≤ 4096)
-  next-small = state-small (grown firstBuckets (stateOf file)) (mostOf file) (ranges .figured .few-buckets) next-formed (omega (arith, next-buckets))
+  next-small : (grown firstBuckets (stateOf file) .level ≤ mostLevel) × (grown firstBuckets (stateOf file) .pointer ≤ mostBuckets)
+  next-small = state-small (grown firstBuckets (stateOf file)) (mostOf file) (ranges .figured .few-buckets) next-formed
+      (omega (arith, next-buckets))
 
   headed : 16 ≤ length two
   headed = omega (arith, header-ranges two two-sound .figured .whole)
@@ -259,7 +298,10 @@ module _ (file : List ℕ) (bytes : Bytes file) (sound : fileSound file ≡ true
 
   three-is : divided file ≡ three
   unfolding divided three two one half source staying
-  three-is = ap (λ (l : List Ride). withState (withRegion one (newborn firstBuckets (stateOf file)) (encode (slotsOf file) (suc (stateOf file .level)) l)) (grown firstBuckets (stateOf file)))
+  three-is = ap
+      (λ (l : List Ride). withState
+      (withRegion one (newborn firstBuckets (stateOf file)) (encode (slotsOf file) (suc (stateOf file .level)) l))
+      (grown firstBuckets (stateOf file)))
       (sym (moves (stateOf file) (ranges .formed) (ridesOf source) (old .parts .belong)))
 
   three-state : stateOf three ≡ grown firstBuckets (stateOf file)
@@ -281,18 +323,22 @@ module _ (file : List ℕ) (bytes : Bytes file) (sound : fileSound file ≡ true
 
   three-region : (b : ℕ) → b < mostOf file → regionOf three b ≡ regionOf two b
   unfolding three
-  three-region b l = state-region two (grown firstBuckets (stateOf file)) headed low (header-ranges two two-sound) b (omega (arith, two-most))
+  three-region b l = state-region two (grown firstBuckets (stateOf file)) headed low (header-ranges two two-sound) b
+      (omega (arith, two-most))
 
-  judged-half : (b : ℕ) → b < suc (bucketsOf file) → b < mostOf file → level firstBuckets (grown firstBuckets (stateOf file)) b ≡ suc (stateOf file .level)
+  judged-half : (b : ℕ) → b < suc (bucketsOf file) → b < mostOf file
+      → level firstBuckets (grown firstBuckets (stateOf file)) b ≡ suc (stateOf file .level)
       → regionOf two b ≡ half b → regionSound three b ≡ true
-  judged-half b l within e is = judged-bucket three b (slotsOf file) (grown firstBuckets (stateOf file)) (half b) three-state three-slots (three-region b within ∙ is)
+  judged-half b l within e is = judged-bucket three b (slotsOf file) (grown firstBuckets (stateOf file)) (half b)
+      three-state three-slots (three-region b within ∙ is)
       (omega (arith, next-buckets)) (half-sound b l e)
 
   in-state : (b : ℕ) → b < bucketsOf file → b < buckets firstBuckets (stateOf file)
   unfolding bucketsOf
   in-state b l = l
 
-  judged-in : (b : ℕ) → b < bucketsOf file → bucketSound firstBuckets (stateOf file) (slotsOf file) b (regionOf file b) ≡ true
+  judged-in : (b : ℕ) → b < bucketsOf file
+      → bucketSound firstBuckets (stateOf file) (slotsOf file) b (regionOf file b) ≡ true
   unfolding bucketSoundIn
   judged-in b l = sound-bucket file sound b l
 
@@ -300,33 +346,43 @@ module _ (file : List ℕ) (bytes : Bytes file) (sound : fileSound file ≡ true
   unfolding bucketsOf
   beyond = ap (buckets firstBuckets) three-state ∙ next-buckets
 
-  judged-other : (b : ℕ) → b < mostOf file → (b ≡ newborn firstBuckets (stateOf file) → ⊥) → (b ≡ stateOf file .pointer → ⊥) → regionSound three b ≡ true
+  judged-other : (b : ℕ) → b < mostOf file → (b ≡ newborn firstBuckets (stateOf file) → ⊥)
+      → (b ≡ splitting (stateOf file) → ⊥) → regionSound three b ≡ true
   judged-other b within other apart = by-cases (decLt b (bucketsOf file)) bucket past
     where
       same : regionOf three b ≡ regionOf file b
       same = three-region b within ∙ two-other b within other apart
 
       bucket : b < bucketsOf file → regionSound three b ≡ true
-      bucket l = judged-bucket three b (slotsOf file) (grown firstBuckets (stateOf file)) (regionOf file b) three-state three-slots same (omega (arith, next-buckets, l))
-          (bucket-alike firstBuckets (omega arith) (stateOf file) (grown firstBuckets (stateOf file)) (ranges .formed) next-formed (slotsOf file) b (in-state b l) (omega (arith, next-buckets, l))
-          (level-other firstBuckets (omega arith) (stateOf file) (ranges .formed) b (in-state b l) apart) (regionOf file b)
+      bucket l = judged-bucket three b (slotsOf file) (grown firstBuckets (stateOf file)) (regionOf file b) three-state
+          three-slots same (omega (arith, next-buckets, l))
+          (bucket-alike firstBuckets (omega arith) (stateOf file) (grown firstBuckets (stateOf file)) (ranges .formed)
+          next-formed (slotsOf file) b (in-state b l) (omega (arith, next-buckets, l))
+          (level-other firstBuckets (omega arith) (stateOf file) (ranges .formed) b (in-state b l) apart)
+          (regionOf file b)
           ∙ judged-in b l)
 
       past : (b < bucketsOf file → ⊥) → regionSound three b ≡ true
-      past not-there = region-past three b (omega (arith, beyond, not-there, other, new-there)) ∙ ap allZero same ∙ sym (region-past file b (omega (arith, not-there))) ∙ sound-region file sound b within
+      past not-there = region-past three b (omega (arith, beyond, not-there, other, new-there)) ∙ ap allZero same
+          ∙ sym (region-past file b (omega (arith, not-there))) ∙ sound-region file sound b within
 
   judged : (b : ℕ) → b < mostOf file → regionSound three b ≡ true
   judged b within = by-cases (ℕ-discrete b (newborn firstBuckets (stateOf file)))
-      (λ e. ap (regionSound three) e ∙ judged-half (newborn firstBuckets (stateOf file)) (omega (arith, new-there)) (omega (arith, new-in, one-most))
+      (λ e. ap (regionSound three) e
+      ∙ judged-half (newborn firstBuckets (stateOf file)) (omega (arith, new-there))
+      (omega (arith, new-in, one-most))
       (level-newborn firstBuckets (omega arith) (stateOf file) (ranges .formed)) two-new)
-      (λ other. by-cases (ℕ-discrete b (stateOf file .pointer))
-      (λ e. ap (regionSound three) e ∙ judged-half (stateOf file .pointer) (omega (arith, old-there)) old-in (level-old firstBuckets (omega arith) (stateOf file) (ranges .formed)) two-old)
+      (λ other. by-cases (ℕ-discrete b (splitting (stateOf file)))
+      (λ e. ap (regionSound three) e
+      ∙ judged-half (splitting (stateOf file)) (omega (arith, old-there)) old-in
+      (level-old firstBuckets (omega arith) (stateOf file) (ranges .formed)) two-old)
       (λ apart. judged-other b within other apart))
 
   pub split-kept : fileSound (divided file) ≡ true
   unfolding fileSound
   split-kept = ap (λ (l : List ℕ). headerSound l && allBelow (regionSound l) (mostOf l)) three-is
-      ∙ and-both _ _ three-header (all-of (regionSound three) (mostOf three) (λ b l. judged b (omega (arith, l, three-most))))
+      ∙ and-both _ _ three-header
+      (all-of (regionSound three) (mostOf three) (λ b l. judged b (omega (arith, l, three-most))))
 
   pub split-state : stateOf (divided file) ≡ grown firstBuckets (stateOf file)
   split-state = ap stateOf three-is ∙ three-state
@@ -334,16 +390,19 @@ module _ (file : List ℕ) (bytes : Bytes file) (sound : fileSound file ≡ true
   -- bytes stay bytes
   half-bytes : (a : ℕ) → Bytes (half a)
   unfolding half
-  half-bytes a = encode-bytes (slotsOf file) (suc (stateOf file .level)) (kept (keeps firstBuckets a (suc (stateOf file .level))) (ridesOf source)) (omega (arith, ranges .low))
+  half-bytes a = encode-bytes (slotsOf file) (suc (stateOf file .level))
+      (kept (keeps firstBuckets a (suc (stateOf file .level))) (ridesOf source)) (omega (arith, ranges .low))
       (kept-whole (keeps firstBuckets a (suc (stateOf file .level))) (ridesOf source) source-whole)
 
   one-bytes : Bytes one
   unfolding one
-  one-bytes = with-bytes file ranges (stateOf file .pointer) old-in (half (stateOf file .pointer)) (half-long (stateOf file .pointer)) (half-bytes (stateOf file .pointer)) bytes
+  one-bytes = with-bytes file ranges (splitting (stateOf file)) old-in (half (splitting (stateOf file)))
+      (half-long (splitting (stateOf file))) (half-bytes (splitting (stateOf file))) bytes
 
   two-bytes : Bytes two
   unfolding two
-  two-bytes = with-bytes one (header-ranges one one-sound) (newborn firstBuckets (stateOf file)) new-in (half (newborn firstBuckets (stateOf file))) new-long
+  two-bytes = with-bytes one (header-ranges one one-sound) (newborn firstBuckets (stateOf file)) new-in
+      (half (newborn firstBuckets (stateOf file))) new-long
       (half-bytes (newborn firstBuckets (stateOf file))) one-bytes
 
   three-bytes : Bytes three
@@ -356,20 +415,28 @@ module _ (file : List ℕ) (bytes : Bytes file) (sound : fileSound file ≡ true
   -- what the two buckets then hold, and that every other region stays
   half-rides : (a : ℕ) → ridesOf (half a) ≡ kept (keeps firstBuckets a (suc (stateOf file .level))) (ridesOf source)
   unfolding half
-  half-rides a = rides-encode (slotsOf file) (suc (stateOf file .level)) (kept (keeps firstBuckets a (suc (stateOf file .level))) (ridesOf source))
+  half-rides a = rides-encode (slotsOf file) (suc (stateOf file .level))
+      (kept (keeps firstBuckets a (suc (stateOf file .level))) (ridesOf source))
       (kept-whole (keeps firstBuckets a (suc (stateOf file .level))) (ridesOf source) source-whole)
-      (omega (arith, kept-lengths (keeps firstBuckets a (suc (stateOf file .level))) (ridesOf source), source-few)) few-slots
+      (omega (arith, kept-lengths (keeps firstBuckets a (suc (stateOf file .level))) (ridesOf source), source-few))
+      few-slots
 
-  pub split-old : ridesOf (regionOf (divided file) (stateOf file .pointer)) ≡ kept (keeps firstBuckets (stateOf file .pointer) (suc (stateOf file .level))) (ridesOf (regionOf file (stateOf file .pointer)))
+  pub split-old : ridesOf (regionOf (divided file) (splitting (stateOf file)))
+      ≡ kept (keeps firstBuckets (splitting (stateOf file)) (suc (stateOf file .level)))
+      (ridesOf (regionOf file (splitting (stateOf file))))
   unfolding source
-  split-old = ap (λ (l : List ℕ). ridesOf (regionOf l (stateOf file .pointer))) three-is
-      ∙ ap ridesOf (three-region (stateOf file .pointer) old-in ∙ two-old) ∙ half-rides (stateOf file .pointer)
+  split-old = ap (λ (l : List ℕ). ridesOf (regionOf l (splitting (stateOf file)))) three-is
+      ∙ ap ridesOf (three-region (splitting (stateOf file)) old-in ∙ two-old) ∙ half-rides (splitting (stateOf file))
 
   pub split-new : ridesOf (regionOf (divided file) (newborn firstBuckets (stateOf file)))
-      ≡ kept (keeps firstBuckets (newborn firstBuckets (stateOf file)) (suc (stateOf file .level))) (ridesOf (regionOf file (stateOf file .pointer)))
+      ≡ kept (keeps firstBuckets (newborn firstBuckets (stateOf file)) (suc (stateOf file .level)))
+      (ridesOf (regionOf file (splitting (stateOf file))))
   unfolding source
   split-new = ap (λ (l : List ℕ). ridesOf (regionOf l (newborn firstBuckets (stateOf file)))) three-is
-      ∙ ap ridesOf (three-region (newborn firstBuckets (stateOf file)) (omega (arith, new-in, one-most)) ∙ two-new) ∙ half-rides (newborn firstBuckets (stateOf file))
+      ∙ ap ridesOf (three-region (newborn firstBuckets (stateOf file)) (omega (arith, new-in, one-most)) ∙ two-new)
+      ∙ half-rides (newborn firstBuckets (stateOf file))
 
-  pub split-other : (b : ℕ) → b < mostOf file → (b ≡ newborn firstBuckets (stateOf file) → ⊥) → (b ≡ stateOf file .pointer → ⊥) → regionOf (divided file) b ≡ regionOf file b
-  split-other b within other apart = ap (λ (l : List ℕ). regionOf l b) three-is ∙ three-region b within ∙ two-other b within other apart
+  pub split-other : (b : ℕ) → b < mostOf file → (b ≡ newborn firstBuckets (stateOf file) → ⊥)
+      → (b ≡ splitting (stateOf file) → ⊥) → regionOf (divided file) b ≡ regionOf file b
+  split-other b within other apart = ap (λ (l : List ℕ). regionOf l b) three-is ∙ three-region b within
+      ∙ two-other b within other apart

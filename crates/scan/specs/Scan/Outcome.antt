@@ -1,5 +1,6 @@
--- A scan is refused or accepted. Refused, it answers counts 0 and leaves both lists; accepted, it has written each bucket of the file once and nothing else,
--- and of its lift exactly the keys that the file holds, each once; what stands behind them in the lists is as it was.
+-- A scan is refused or accepted. Refused, it answers counts 0 and leaves both lists; accepted, it has written each
+-- bucket of the file once and nothing else, and of its lift exactly the keys that the file holds, each once; what
+-- stands behind them in the lists is as it was.
 use Prim.Native.Nat.{ℕ, _-_, _≤_, _<_}
 use mathlib.Core.Path.{_≡_, refl, sym, ap, _∙_}
 use mathlib.Core.Bool.{Bool, true, false, cond}
@@ -11,38 +12,32 @@ use Rattle.address.specs.Compare.{below, same}
 use Rattle.address.specs.Limits.{firstBuckets, noBucket}
 use Rattle.address.specs.Rules.{lastRound, highest}
 use Rattle.address.specs.Rules.Address.{address-exists}
-use Rattle.address.specs.Rules.Scan.{times, times-none, times-here, times-there, rounds}
+use Rattle.address.specs.Rules.Route.{Below}
+use Rattle.address.specs.Rules.Scan.{times, times-here, times-there, rounds}
 use Rattle.layout.specs.Bytes.{edit}
 use Rattle.layout.specs.Bytes.Edit.{front-written, rest-left}
 use Rattle.layout.specs.Replies.{reply}
+use Rattle.bucket.specs.Region.{every}
+use Rattle.bucket.specs.Region.Every.{every-among, every-below}
 use Rattle.client.specs.Table.{imageOf}
 use Rattle.file.specs.File.{stateOf, bucketsOf, bucketSoundIn, fileSound}
-use Rattle.file.specs.File.Kept.{sound-bucket}
-use Rattle.route.specs.Way.{early, everyOn, held}
-use Rattle.route.specs.Way.Kept.{Passed, passed, existing, formed, believes, near}
-use Rattle.route.specs.Way.Route.{every-none}
-use Rattle.scan.specs.Scan.{Scanned, ofLift, keysIn, matchesOn, visitsOf, firstUnsound, scan}
+use Rattle.file.specs.File.Judge.{existing}
+use Rattle.file.specs.File.Keeping.{sound-bucket}
+use Rattle.route.specs.Way.{early, held}
+use Rattle.route.specs.Way.Keeping.{Passed, passed, formed, believes, near}
+use Rattle.scan.specs.Scan.{Scanned, leaving, ofLift, keysIn, matchesOn, visitsOf, firstUnsound, scan}
 use Rattle.scan.specs.Scan.Found.{own, once, elsewhere, held-times, other-times, visited}
-use Rattle.scan.specs.Scan.Replied.{answered, refusal, collected-unsound, collected-short, collected-done, scan-early, scan-short, scan-long}
-use Rattle.scan.specs.Scan.Way.{every-first, every-next, way-length, way-once, way-only}
+use Rattle.scan.specs.Scan.Replied.{refusal, acceptance, collected-unsound, collected-short, collected-done}
+use Rattle.scan.specs.Scan.Replied.{scan-early, scan-short, scan-long}
+use Rattle.scan.specs.Scan.Way.{way-length, way-once, way-only}
 
--- a test that all pass passes at what stands among them
-every-among : (test : ℕ → Bool) (way : List ℕ) (a : ℕ) → everyOn test way ≡ true → 0 < times a way → test a ≡ true
-every-among test [] a all some = absurd (omega (arith, times-none a))
-every-among test (b ∷ way) a all some =
-    let first = every-first test b way all in
-    ⊎-elim
-    (λ e. ap test e ∙ first)
-    (λ e. every-among test way a (sym (every-next test b way first) ∙ all) (omega (arith, times-there a b way e)))
-    (same a b)
-
--- and a test that passes at each number below a bound passes on a way below it
-every-below : (test : ℕ → Bool) (most : ℕ) → ((a : ℕ) → a < most → test a ≡ true) → (way : List ℕ) → ((a : ℕ) → most ≤ a → times a way ≡ 0) → everyOn test way ≡ true
-every-below test most each [] low = every-none test
-every-below test most each (a ∷ way) low = ⊎-elim
-    (λ h. every-next test a way (each a h) ∙ every-below test most each way (λ b past. omega (arith, low b past, later b)))
-    (λ past. absurd (omega (arith, low a past, times-here a a way refl)))
-    (below a most)
+-- a way on which no number from a bound on stands is below it
+below-all : (most : ℕ) (way : List ℕ) → ((a : ℕ) → most ≤ a → times a way ≡ 0) → Below most way
+below-all most [] low = tt
+below-all most (a ∷ way) low = (
+  ⊎-elim (λ h. h) (λ past. absurd (omega (arith, low a past, times-here a a way refl))) (below a most),
+  below-all most way (λ b past. omega (arith, low b past, later b)),
+)
   where
     later : (b : ℕ) → times b way ≤ times b (a ∷ way)
     later b = ⊎-elim (λ e. omega (arith, times-here b a way e)) (λ e. omega (arith, times-there b a way e)) (same b a)
@@ -62,45 +57,56 @@ module _ (file table : List ℕ) (client lift : ℕ) (visits matches : List ℕ)
     pub bucket : ℕ
     pub some : number ≡ 0 → ⊥
     pub none : (number ≡ 7 → ⊥) → bucket ≡ noBucket
-    pub is : outcome ≡ answered (refusal number bucket) visits matches
+    pub is : outcome ≡ leaving (refusal number bucket) visits matches
 
-  pub record Accepted : Type 0 where
+  pub record Collected : Type 0 where
     pub passes : Passed file table client
-    pub sound : everyOn (bucketSoundIn file) way ≡ true
-    pub is : outcome ≡ record { answer = 0; bucket = noBucket; visits = length way; matches = length keys; visitList = edit 0 way visits; matchList = edit 0 keys matches }
+    pub sound : every (bucketSoundIn file) way ≡ true
+    pub is : outcome
+        ≡ leaving (acceptance (length way) (length keys)) (edit 0 way visits) (edit 0 keys matches)
 
-  refused-with : (r a : ℕ) → (r ≡ 0 → ⊥) → ((r ≡ 7 → ⊥) → a ≡ noBucket) → answered (refusal r a) visits matches ≡ outcome → Refused ⊎ Accepted
+  refused-with : (r a : ℕ) → (r ≡ 0 → ⊥) → ((r ≡ 7 → ⊥) → a ≡ noBucket)
+      → leaving (refusal r a) visits matches ≡ outcome → Refused ⊎ Collected
   refused-with r a some none e = inl (record { number = r; bucket = a; some = some; none = none; is = sym e })
 
-  pub scan-cases : Refused ⊎ Accepted
+  pub scan-cases : Refused ⊎ Collected
   scan-cases = ⊎-elim opened
-      (λ some. refused-with (reply (early file table client) 0) noBucket some (λ h. refl) (scan-early file table client lift visits matches (refusal (reply (early file table client) 0) noBucket) (reply (early file table client) 0) refl refl some))
+      (λ some. refused-with (reply (early file table client) 0) noBucket some (λ h. refl)
+      (scan-early file table client lift visits matches (refusal (reply (early file table client) 0) noBucket)
+      (reply (early file table client) 0) refl refl some))
       (same (reply (early file table client) 0) 0)
     where
-      opened : reply (early file table client) 0 ≡ 0 → Refused ⊎ Accepted
+      opened : reply (early file table client) 0 ≡ 0 → Refused ⊎ Collected
       opened zero = ⊎-elim
-          (λ short. refused-with 11 noBucket (λ h. omega arith) (λ h. refl) (scan-short file table client lift visits matches zero (refusal 11 noBucket) refl short))
-          (λ long. judged long (everyOn (bucketSoundIn file) way) refl)
+          (λ short. refused-with 11 noBucket (λ h. omega arith) (λ h. refl)
+          (scan-short file table client lift visits matches zero (refusal 11 noBucket) refl short))
+          (λ long. judged long (every (bucketSoundIn file) way) refl)
           (below (length visits) (bucketsOf file))
         where
-          judged : bucketsOf file ≤ length visits → (b : Bool) → everyOn (bucketSoundIn file) way ≡ b → Refused ⊎ Accepted
+          judged : bucketsOf file ≤ length visits → (b : Bool) → every (bucketSoundIn file) way ≡ b
+              → Refused ⊎ Collected
           judged long false bad = refused-with 7 (firstUnsound file way) (λ h. omega arith) (λ h. absurd (h refl))
-              (scan-long file table client lift visits matches zero long (answered (refusal 7 (firstUnsound file way)) visits matches) way
-              (collected-unsound file lift way visits matches (refusal 7 (firstUnsound file way)) (firstUnsound file way) refl bad refl) refl)
+              (scan-long file table client lift visits matches zero long
+              (leaving (refusal 7 (firstUnsound file way)) visits matches) way
+              (collected-unsound file lift way visits matches (refusal 7 (firstUnsound file way))
+              (firstUnsound file way) refl bad refl) refl)
           judged long true fine = ⊎-elim
               (λ short. refused-with 12 noBucket (λ h. omega arith) (λ h. refl)
-              (scan-long file table client lift visits matches zero long (answered (refusal 12 noBucket) visits matches) way
+              (scan-long file table client lift visits matches zero long (leaving (refusal 12 noBucket) visits matches)
+              way
               (collected-short file lift way visits matches fine (refusal 12 noBucket) refl short) refl))
               (λ room. inr (record {
                 passes = passed file table client zero;
                 sound = fine;
                 is = sym (scan-long file table client lift visits matches zero long _ way
-                    (collected-done file lift way visits matches fine room (length keys) (edit 0 way visits) (edit 0 keys matches) refl refl refl) refl);
+                    (collected-done file lift way visits matches fine room (length keys) (edit 0 way visits)
+                    (edit 0 keys matches) refl refl refl) refl);
               }))
               (below (length matches) (length keys))
 
   -- a refused scan answers counts 0 and leaves both lists; the bucket's number is 65,535 with any reply but 7
-  pub scan-refused : (outcome .answer ≡ 0 → ⊥) → (outcome .visits ≡ 0) × (outcome .matches ≡ 0) × (outcome .visitList ≡ visits) × (outcome .matchList ≡ matches)
+  pub scan-refused : (outcome .answer ≡ 0 → ⊥)
+      → (outcome .visits ≡ 0) × (outcome .matches ≡ 0) × (outcome .visitList ≡ visits) × (outcome .matchList ≡ matches)
   scan-refused some = ⊎-elim
       (λ r. (
         ap (λ (o : Scanned). o .visits) (r .is),
@@ -113,7 +119,8 @@ module _ (file table : List ℕ) (client lift : ℕ) (visits matches : List ℕ)
 
   pub scan-bucket : (outcome .answer ≡ 7 → ⊥) → outcome .bucket ≡ noBucket
   scan-bucket other = ⊎-elim
-      (λ r. ap (λ (o : Scanned). o .bucket) (r .is) ∙ r .none (λ e. other (ap (λ (o : Scanned). o .answer) (r .is) ∙ e)))
+      (λ r. ap (λ (o : Scanned). o .bucket) (r .is)
+      ∙ r .none (λ e. other (ap (λ (o : Scanned). o .answer) (r .is) ∙ e)))
       (λ a. ap (λ (o : Scanned). o .bucket) (a .is))
       scan-cases
 
@@ -121,26 +128,32 @@ module _ (file table : List ℕ) (client lift : ℕ) (visits matches : List ℕ)
 
   module _ (passes : Passed file table client) where
     visits-length : length way ≡ bucketsOf file
-    visits-length = way-length file (passes .header-sound) (imageOf table client) (believes file table client passes) (near file table client passes)
+    visits-length = way-length file (passes .header-sound) (imageOf table client) (believes file table client passes)
+        (near file table client passes)
 
     visits-once : (a : ℕ) → a < bucketsOf file → times a way ≡ 1
-    visits-once = way-once file (passes .header-sound) (imageOf table client) (believes file table client passes) (near file table client passes)
+    visits-once = way-once file (passes .header-sound) (imageOf table client) (believes file table client passes)
+        (near file table client passes)
 
     visits-only : (a : ℕ) → bucketsOf file ≤ a → times a way ≡ 0
-    visits-only = way-only file (passes .header-sound) (imageOf table client) (believes file table client passes) (near file table client passes)
+    visits-only = way-only file (passes .header-sound) (imageOf table client) (believes file table client passes)
+        (near file table client passes)
 
     -- in a sound file it has no unsound bucket
-    pub scan-file-sound : fileSound file ≡ true → everyOn (bucketSoundIn file) way ≡ true
-    scan-file-sound sound = every-below (bucketSoundIn file) (bucketsOf file) (sound-bucket file sound) way visits-only
+    pub scan-file-sound : fileSound file ≡ true → every (bucketSoundIn file) way ≡ true
+    scan-file-sound sound = every-below (bucketSoundIn file) (bucketsOf file) (sound-bucket file sound) way
+        (below-all (bucketsOf file) way visits-only)
 
     -- and its last round is at most the highest bucket level less i'
-    pub scan-rounds : lastRound firstBuckets (stateOf file) (imageOf table client) ≤ highest firstBuckets (stateOf file) - imageOf table client .level
-    scan-rounds = rounds firstBuckets (omega arith) (stateOf file) (formed file table client passes) (imageOf table client) (believes file table client passes) (near file table client passes)
+    pub scan-rounds : lastRound firstBuckets (stateOf file) (imageOf table client)
+        ≤ highest firstBuckets (stateOf file) - imageOf table client .level
+    scan-rounds = rounds firstBuckets (omega arith) (stateOf file) (formed file table client passes)
+        (imageOf table client) (believes file table client passes) (near file table client passes)
 
   -- ---- an accepted scan
 
   module _ (done : outcome .answer ≡ 0) where
-    accepted : Accepted
+    accepted : Collected
     accepted = ⊎-elim (λ r. absurd (r .some (sym (ap (λ (o : Scanned). o .answer) (r .is)) ∙ done))) (λ a. a) scan-cases
 
     -- the visits are the defined order, and the entries past them keep their content
@@ -163,7 +176,8 @@ module _ (file table : List ℕ) (client lift : ℕ) (visits matches : List ℕ)
 
     -- every bucket of the file is sound
     pub scan-sound : (a : ℕ) → a < bucketsOf file → bucketSoundIn file a ≡ true
-    scan-sound a h = every-among (bucketSoundIn file) way a (accepted .sound) (omega (arith, visits-once (accepted .passes) a h))
+    scan-sound a h = every-among (bucketSoundIn file) way a (accepted .sound)
+        (omega (arith, visits-once (accepted .passes) a h))
 
     -- the matches are the defined ones, and the entries past them keep their content
     pub scan-matches : take (outcome .matches) (outcome .matchList) ≡ keys
@@ -174,37 +188,53 @@ module _ (file table : List ℕ) (client lift : ℕ) (visits matches : List ℕ)
         ∙ ap (λ (o : Scanned). drop (o .matches) matches) (sym (accepted .is))
 
     -- a key of another lift stands nowhere among them
-    pub scan-matches-other : (key : ℕ) → ofLift lift key ≡ false → times key (take (outcome .matches) (outcome .matchList)) ≡ 0
+    pub scan-matches-other : (key : ℕ) → ofLift lift key ≡ false
+        → times key (take (outcome .matches) (outcome .matchList)) ≡ 0
     scan-matches-other key other = ap (times key) scan-matches ∙ other-times file key lift other way
 
     module _ (key : ℕ) (match : ofLift lift key ≡ true) where
       exists : own file key < bucketsOf file
-      exists = omega (arith, existing file, address-exists firstBuckets (omega arith) (stateOf file) (formed file table client (accepted .passes)) key)
+      exists = omega (
+        arith,
+        existing file,
+        address-exists firstBuckets (omega arith) (stateOf file)
+            (formed file table client (accepted .passes)) key,
+      )
 
       in-own : times key (take (outcome .matches) (outcome .matchList)) ≡ times key (keysIn file (own file key))
-      in-own = ap (times key) scan-matches ∙ visited file key lift match way (accepted .sound) (visits-once (accepted .passes) (own file key) exists)
+      in-own = ap (times key) scan-matches
+          ∙ visited file key lift match way (accepted .sound) (visits-once (accepted .passes) (own file key) exists)
 
       -- a key of the scan's lift stands there exactly once if search finds it held, and else never
       pub scan-matches-held : times key (take (outcome .matches) (outcome .matchList)) ≡ cond (held file key) 1 0
       scan-matches-held = in-own ∙ held-times file key (scan-sound (own file key) exists)
 
       -- exactly once if any bucket of the file holds it, and never if none does
-      pub scan-matches-once : (a : ℕ) → a < bucketsOf file → 0 < times key (keysIn file a) → times key (take (outcome .matches) (outcome .matchList)) ≡ 1
+      pub scan-matches-once : (a : ℕ) → a < bucketsOf file → 0 < times key (keysIn file a)
+          → times key (take (outcome .matches) (outcome .matchList)) ≡ 1
       scan-matches-once a h some = ⊎-elim
           (λ e. omega (arith, in-own, ap (λ (b : ℕ). times key (keysIn file b)) e, once file key a (scan-sound a h)))
           (λ e. absurd (omega (arith, elsewhere file key a (scan-sound a h) e)))
           (same (own file key) a)
 
-      pub scan-matches-never : ((a : ℕ) → a < bucketsOf file → times key (keysIn file a) ≡ 0) → times key (take (outcome .matches) (outcome .matchList)) ≡ 0
+      pub scan-matches-never : ((a : ℕ) → a < bucketsOf file → times key (keysIn file a) ≡ 0)
+          → times key (take (outcome .matches) (outcome .matchList)) ≡ 0
       scan-matches-never none = in-own ∙ none (own file key) exists
 
 -- a scan answers no more visits than its list has room for
-pub visits-fit : (file table : List ℕ) (client lift : ℕ) (visits matches : List ℕ) → scan file table client lift visits matches .visits ≤ length visits
+pub visits-fit : (file table : List ℕ) (client lift : ℕ) (visits matches : List ℕ)
+    → scan file table client lift visits matches .visits ≤ length visits
 visits-fit file table client lift visits matches = ⊎-elim opened
-    (λ some. omega (arith, none (scan-early file table client lift visits matches (refusal (reply (early file table client) 0) noBucket) (reply (early file table client) 0) refl refl some)))
+    (λ some. omega (
+      arith,
+      none
+          (scan-early file table client lift visits matches (refusal (reply (early file table client) 0) noBucket)
+          (reply (early file table client) 0) refl refl some),
+    ))
     (same (reply (early file table client) 0) 0)
   where
-    none : {r a : ℕ} → answered (refusal r a) visits matches ≡ scan file table client lift visits matches → 0 ≡ scan file table client lift visits matches .visits
+    none : {r a : ℕ} → leaving (refusal r a) visits matches ≡ scan file table client lift visits matches
+        → 0 ≡ scan file table client lift visits matches .visits
     none e = ap (λ (o : Scanned). o .visits) e
 
     long : bucketsOf file ≤ length visits → scan file table client lift visits matches .visits ≤ length visits
@@ -215,6 +245,7 @@ visits-fit file table client lift visits matches = ⊎-elim opened
 
     opened : reply (early file table client) 0 ≡ 0 → scan file table client lift visits matches .visits ≤ length visits
     opened zero = ⊎-elim
-        (λ short. omega (arith, none (scan-short file table client lift visits matches zero (refusal 11 noBucket) refl short)))
+        (λ short. omega
+        (arith, none (scan-short file table client lift visits matches zero (refusal 11 noBucket) refl short)))
         (λ room. long room)
         (below (length visits) (bucketsOf file))
