@@ -2,6 +2,7 @@
 -- an image is, and what joining leaves.
 pub mod Keeping
 pub mod Laws
+pub mod Start
 use Prim.Native.Nat.{ℕ, _*_, _/_, _%_, _+_}
 use mathlib.Core.Bool.{Bool, cond, not, _&&_}
 use mathlib.Core.List.{List, [], _∷_, _++_}

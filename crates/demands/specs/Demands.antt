@@ -6,7 +6,7 @@ use mathlib.Core.List.{List, [], _∷_}
 use mathlib.Core.Logic.{_⊎_}
 use native.Mathlib.Omega.{arith}
 use lib.ListN.{length}
-use Rattle.address.specs.Rules.Scan.{times}
+use Rattle.address.specs.Limits.{firstBuckets}
 use Rattle.layout.specs.Bytes.{Bytes}
 use Rattle.layout.specs.Replies.{refuse, reply}
 use Rattle.client.specs.Table.{exists}
@@ -15,17 +15,16 @@ use Rattle.file.specs.File.Create.{create-reply, create-left}
 use Rattle.ride.specs.Call.{adjustedTable, search, insert}
 use Rattle.scan.specs.Scan.{scan}
 use Rattle.scan.specs.Scan.Outcome.{scan-refused}
-use Rattle.demands.specs.Run.{Memory, Call, Insert, Search, Scan, AllTyped, after, run}
-use Rattle.demands.specs.Run.{replied, conditions}
-use Rattle.demands.specs.Run.{Finds, Kept, Ready, sent, Reached, believed, wrongFirst}
-use Rattle.demands.specs.Run.{forwardsOf, summed}
-use Rattle.demands.specs.Run.{visited, NotJoined}
-use Rattle.demands.specs.Run.Clients.{ready-run, sent-reaches, wrong-sends, forwards-summed}
-use Rattle.demands.specs.Run.Clients.{scan-once}
+use Rattle.demands.specs.Run.{Memory, Call, Insert, Search, Scan, AllTyped, Each, after, run}
+use Rattle.demands.specs.Run.{replied, conditions, Finds, Accepted, Kept, Ready, sent}
+use Rattle.demands.specs.Run.{Reached, VisitsOnce, believed, wrongFirst, forwardsOf, summed}
+use Rattle.demands.specs.Run.{NotJoined, started, FromNothing}
+use Rattle.demands.specs.Run.Clients.{ready-run, each-run, sent-reaches, scan-once}
+use Rattle.demands.specs.Run.Clients.{wrong-sends, forwards-summed}
+use Rattle.demands.specs.Run.Fresh.{fresh-ready, fresh-believes, fresh-empty, finds-accepted}
 use Rattle.demands.specs.Run.Held.{whole-run, run-finds}
 use Rattle.demands.specs.Run.Replied.{call-replies, call-untouched, insert-adjusted}
-use Rattle.demands.specs.Run.Replied.{insert-untouched}
-use Rattle.demands.specs.Run.Replied.{search-untouched}
+use Rattle.demands.specs.Run.Replied.{insert-untouched, search-untouched}
 
 -- Demand 1. Every entry point takes anything at all, judges it itself and gives exactly the
 -- numbered reply that document 01 fixes, first match wins. A refusal changes nothing but what 01
@@ -82,46 +81,80 @@ pub record Demand2 (m : Memory) (calls : List Call) : Type 0 where
       → replied (run m calls) (Search client key answer) ≤ 1
       → Finds key (search (run m calls .file) (run m calls .table) client key answer) (Kept m calls)
 
-pub demand-2 : (m : Memory) → Bytes (m .file) → fileSound (m .file) ≡ true → (calls : List Call)
-    → AllTyped calls
-    → Demand2 m calls
-demand-2 m bytes sound calls typed =
-    record {
-      sound = whole-run m bytes sound calls typed .sound;
-      found = run-finds m bytes sound
-          calls typed;
-    }
+pub demand-2 : (m : Memory) → Bytes (m .file) → fileSound (m .file) ≡ true
+    → (calls : List Call) → AllTyped calls → Demand2 m calls
+demand-2 m bytes sound calls typed = record {
+  sound = whole-run m bytes sound calls typed .sound;
+  found = run-finds m bytes sound calls typed;
+}
 
--- Demand 3. After any run of a sound file and a sound table with no client ahead, and so after each
--- call of it: all of that holds again; whatever key is sent next reaches its own bucket in at most
--- two forwards, each to a higher bucket; a client's wrong first sends in the run number at most the
--- buckets at the end less those it believed in at the start, its forwards at most twice that; a
--- scan that is accepted next visits each bucket once.
+-- Demand 3. In any run of a sound file and a sound table with no client ahead: all of that holds
+-- again after it, and so after each call of it; every key that is sent reaches its own bucket in at
+-- most two forwards, each to a higher bucket; every accepted scan visits each bucket once; a
+-- client's wrong first sends number at most the buckets at the end less those it believed in at the
+-- start, its forwards at most twice that.
 pub record Demand3 (m : Memory) (calls : List Call) : Type 0 where
   pub ready : Ready (run m calls)
-  pub reached : (call : Call) → Reached (run m calls) (sent (run m calls) call)
+  pub reached : Each (λ now call. Reached now (sent now call)) m calls
+  pub scanned : Each VisitsOnce m calls
   pub wrong : (client : ℕ) → exists (m .table) client ≡ true → NotJoined client calls
       → summed (wrongFirst client) m calls ≤ bucketsOf (run m calls .file) - believed client m
   pub forwarded : (client : ℕ) → exists (m .table) client ≡ true → NotJoined client calls
       → summed (forwardsOf client) m calls ≤ 2 * (bucketsOf (run m calls .file) - believed client m)
-  pub scanned : (client lift : ℕ) (visits matches : List ℕ)
-      → replied (run m calls) (Scan client lift visits matches) ≡ 0
-      → (a : ℕ)
-      → (a < bucketsOf (run m calls .file)
-      → times a (visited (run m calls) client lift visits matches) ≡ 1)
-      × (bucketsOf (run m calls .file) ≤ a
-      → times a (visited (run m calls) client lift visits matches) ≡ 0)
 
 pub demand-3 : (m : Memory) → Ready m → (calls : List Call) → AllTyped calls → Demand3 m calls
 demand-3 m ready calls typed = record {
   ready = ready-run m ready calls typed;
-  reached = sent-reaches (run m calls) (ready-run m ready calls typed);
+  reached = each-run (λ now call. Reached now (sent now call)) sent-reaches m ready calls typed;
+  scanned = each-run VisitsOnce (λ now still call. scan-once now call) m ready calls typed;
   wrong = λ client there old. omega (arith, wrong-sends client m ready there calls typed old);
   forwarded = λ client there old. omega (
     arith,
     wrong-sends client m ready there calls typed old,
-    forwards-summed client m ready calls
-        typed,
+    forwards-summed client m ready calls typed,
   );
-  scanned = scan-once (run m calls);
 }
+
+-- From nothing. A file that create has just made, every client of the table joined, any run: what
+-- demands 2 and 3 ask for is there, so both hold; and as nothing is held at the start and a client
+-- believes in the first bucket alone, a search that is not refused finds exactly the rides accepted,
+-- and a client's wrong first sends number at most the buckets at the end less one.
+pub record Demanded (m : Memory) (calls : List Call) : Type 0 where
+  pub second : Demand2 m calls
+  pub third : Demand3 m calls
+  pub found : (client key : ℕ) (answer : List ℕ)
+      → replied (run m calls) (Search client key answer) ≤ 1
+      → Finds key (search (run m calls .file) (run m calls .table) client key answer)
+      (λ ride. Accepted m ride calls)
+  pub wrong : (client : ℕ) → exists (m .table) client ≡ true → NotJoined client calls
+      → summed (wrongFirst client) m calls ≤ bucketsOf (run m calls .file) - firstBuckets
+  pub forwarded : (client : ℕ) → exists (m .table) client ≡ true → NotJoined client calls
+      → summed (forwardsOf client) m calls ≤ 2 * (bucketsOf (run m calls .file) - firstBuckets)
+
+module _ (file table : List ℕ) (b S M : ℕ) (clients : List ℕ)
+    (given : FromNothing file table b S M clients) where
+  pub ready-from-nothing : Ready (started file table b S M clients)
+  ready-from-nothing = fresh-ready file table b S M clients given
+
+  pub from-nothing : (calls : List Call) → AllTyped calls
+      → Demanded (started file table b S M clients) calls
+  from-nothing calls typed =
+      let m = started file table b S M clients in
+      let second = demand-2 m (ready-from-nothing .bytes) (ready-from-nothing .file-sound) calls typed in
+      let third = demand-3 m ready-from-nothing calls typed in
+      record {
+        second = second;
+        third = third;
+        found = λ client key answer low. finds-accepted m calls
+            (second .found client key answer low) (fresh-empty file table b S M clients given);
+        wrong = λ client there old. omega (
+          arith,
+          third .wrong client there old,
+          fresh-believes file table b S M clients given client there,
+        );
+        forwarded = λ client there old. omega (
+          arith,
+          third .forwarded client there old,
+          fresh-believes file table b S M clients given client there,
+        );
+      }

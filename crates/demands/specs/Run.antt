@@ -1,26 +1,28 @@
 -- Runs of calls. What a call does to file and table, and what it answers, are the definitions that
 -- its contract cites.
 pub mod Clients
+pub mod Fresh
 pub mod Held
 pub mod Replied
 pub mod Shut
 use Prim.Native.Nat.{ℕ, _+_, _^_, _≤_, _<_}
 use mathlib.Core.Path.{_≡_}
 use mathlib.Core.Bool.{Bool, true, cond, not, _&&_}
-use mathlib.Core.List.{List, [], _∷_, _++_, List·Memᴰ}
+use mathlib.Core.List.{List, [], _∷_, _++_, map, List·Memᴰ}
 use mathlib.Core.Logic.{_⊎_, _↔_}
 use lib.Dec.{leb, ltb, eqb}
 use lib.ListN.{length, take}
 use Rattle.address.specs.Limits.{firstBuckets}
 use Rattle.address.specs.Rules.{NotAhead, buckets, address, splitting, newborn, forwards, parent}
 use Rattle.address.specs.Rules.Route.{Delivered}
+use Rattle.address.specs.Rules.Scan.{times}
 use Rattle.layout.specs.Bytes.{Bytes, allZero, part}
 use Rattle.layout.specs.Replies.{Refusal, refuse, reply}
 use Rattle.bucket.specs.Region.{Ride, ridesOf, every}
-use Rattle.client.specs.Table.{Joined, exists, imageOf, tableSound, tableRefusals, join}
-use Rattle.file.specs.File.{Checked, SplitOutcome, mostOf, stateOf, bucketsOf, headerSound, regionOf}
-use Rattle.file.specs.File.{bucketSoundIn}
-use Rattle.file.specs.File.{fileSound, lowestUnsound, check, view, split}
+use Rattle.client.specs.Table.{Joined, lengthSound, exists, imageOf, tableSound, tableRefusals, join}
+use Rattle.file.specs.File.{mostOf, stateOf, bucketsOf, headerSound, regionOf, bucketSoundIn}
+use Rattle.file.specs.File.{fileSound, lowestUnsound, Checked, check, view, create}
+use Rattle.file.specs.File.{SplitOutcome, split}
 use Rattle.route.specs.Way.{early, cut, wayOf, ownOf, held, full}
 use Rattle.ride.specs.Call.{Outcome, search, insert}
 use Rattle.scan.specs.Scan.{Scanned, matchesOn, visitsOf, scan}
@@ -99,6 +101,11 @@ pub AllTyped : List Call → Type 0
 AllTyped [] = Unit {0}
 AllTyped (call ∷ calls) = Typed call × AllTyped calls
 
+-- Of each call of a run: what holds of the memory before the call, and of the call.
+pub Each : (Memory → Call → Type 0) → Memory → List Call → Type 0
+Each Holding m [] = Unit {0}
+Each Holding m (call ∷ calls) = Holding m call × Each Holding (after m call) calls
+
 -- ---- demand 1
 
 -- The number that a call replies. The view and the parent give no reply number; 0 stands for them,
@@ -113,6 +120,10 @@ replied m Check = answered m Check .answer
 replied m (View bucket) = 0
 replied m (Parent bucket) = 0
 
+-- Every bucket of a way is sound.
+abbrev pub allSound : Memory → List ℕ → Bool
+allSound m way = every (bucketSoundIn (m .file)) way
+
 -- Each reply with its condition, in document 01's order: the first match wins, and 0 is left. (1 is
 -- no refusal, but it has its condition like one.)
 pub conditions : Memory → Call → List Refusal
@@ -120,16 +131,14 @@ conditions m (Join client) = tableRefusals (m .table) client
 conditions m (Insert client key payload answer) =
     refuse 14 (not (eqb (length answer) 24 && eqb (length payload) 14))
     ∷ (early (m .file) (m .table) client
-    ++ (refuse 7
-    (not (every (bucketSoundIn (m .file)) (wayOf (m .file) (imageOf (m .table) client) key)))
+    ++ (refuse 7 (not (allSound m (wayOf (m .file) (imageOf (m .table) client) key)))
     ∷ refuse 8 (held (m .file) key)
     ∷ refuse 9 (full (m .file) key)
     ∷ []))
 conditions m (Search client key answer) =
     refuse 14 (not (eqb (length answer) 24))
     ∷ (early (m .file) (m .table) client
-    ++ (refuse 7
-    (not (every (bucketSoundIn (m .file)) (wayOf (m .file) (imageOf (m .table) client) key)))
+    ++ (refuse 7 (not (allSound m (wayOf (m .file) (imageOf (m .table) client) key)))
     ∷ refuse 1 (not (held (m .file) key))
     ∷ []))
 conditions m Split =
@@ -139,16 +148,16 @@ conditions m Split =
     ∷ refuse 7 (not (allZero (regionOf (m .file) (newborn firstBuckets (stateOf (m .file))))))
     ∷ []
 conditions m (Scan client lift visits matches) =
+    let way = visitsOf (m .file) (imageOf (m .table) client) in
     early (m .file) (m .table) client
     ++ (refuse 11 (ltb (length visits) (bucketsOf (m .file)))
-    ∷ refuse 7
-    (not (every (bucketSoundIn (m .file)) (visitsOf (m .file) (imageOf (m .table) client))))
-    ∷ refuse 12
-    (ltb (length matches)
-    (length (matchesOn (m .file) lift (visitsOf (m .file) (imageOf (m .table) client)))))
+    ∷ refuse 7 (not (allSound m way))
+    ∷ refuse 12 (ltb (length matches) (length (matchesOn (m .file) lift way)))
     ∷ [])
-conditions m Check = refuse 5 (not (headerSound (m .file)))
-    ∷ refuse 7 (ltb (lowestUnsound (m .file)) (mostOf (m .file))) ∷ []
+conditions m Check =
+    refuse 5 (not (headerSound (m .file)))
+    ∷ refuse 7 (ltb (lowestUnsound (m .file)) (mostOf (m .file)))
+    ∷ []
 conditions m (View bucket) = []
 conditions m (Parent bucket) = []
 
@@ -209,13 +218,13 @@ pub data Sent : Type 0 where
   Key : ℕ → ℕ → Sent
 
 pub sentIf : Bool → Memory → ℕ → ℕ → Sent
-sentIf fits m client key = cond (fits && eqb (reply (early (m .file) (m .table) client) 0) 0)
-    (Key client key) Nothing
+sentIf fits m client key =
+    cond (fits && eqb (reply (early (m .file) (m .table) client) 0) 0) (Key client key) Nothing
 
 pub sent : Memory → Call → Sent
 sent m (Join client) = Nothing
-sent m (Insert client key payload answer) = sentIf
-    (eqb (length answer) 24 && eqb (length payload) 14) m client key
+sent m (Insert client key payload answer) =
+    sentIf (eqb (length answer) 24 && eqb (length payload) 14) m client key
 sent m (Search client key answer) = sentIf (eqb (length answer) 24) m client key
 sent m Split = Nothing
 sent m (Scan client lift visits matches) = Nothing
@@ -223,26 +232,29 @@ sent m Check = Nothing
 sent m (View bucket) = Nothing
 sent m (Parent bucket) = Nothing
 
+-- The bucket that the client sends it to.
+abbrev pub firstOf : Memory → ℕ → ℕ → ℕ
+firstOf m client key = address firstBuckets (imageOf (m .table) client) key
+
 -- Its defined route; with 7 it ends at the unsound bucket.
 pub routeOf : Memory → ℕ → ℕ → List ℕ
-routeOf m client key = cut (bucketSoundIn (m .file))
-    (wayOf (m .file) (imageOf (m .table) client) key)
+routeOf m client key =
+    cut (bucketSoundIn (m .file)) (wayOf (m .file) (imageOf (m .table) client) key)
 
 -- It reaches its own bucket: at most two forwards, each to a higher-numbered bucket, and the last
 -- bucket is the key's address.
 pub Reached : Memory → Sent → Type 0
 Reached m Nothing = Unit {0}
 Reached m (Key client key) =
-    (h : ℕ) × (h ≤ 2) × Delivered firstBuckets (stateOf (m .file)) key
-    (address firstBuckets (imageOf (m .table) client) key) h (routeOf m client key)
+    (h : ℕ) × (h ≤ 2) × Delivered firstBuckets (stateOf (m .file)) key (firstOf m client key) h
+    (routeOf m client key)
 
 -- Of a client: 1 for a key sent whose first bucket is not the key's own, and the forwards of its
 -- route.
 pub wrongFirst : ℕ → Memory → Sent → ℕ
 wrongFirst client m Nothing = 0
-wrongFirst client m (Key other key) = cond
-    (eqb other client && not
-    (eqb (address firstBuckets (imageOf (m .table) client) key) (ownOf (m .file) key))) 1 0
+wrongFirst client m (Key other key) =
+    cond (eqb other client && not (eqb (firstOf m client key) (ownOf (m .file) key))) 1 0
 
 pub forwardsOf : ℕ → Memory → Sent → ℕ
 forwardsOf client m Nothing = 0
@@ -263,7 +275,34 @@ visited m client lift visits matches =
     let outcome = scan (m .file) (m .table) client lift visits matches in
     take (outcome .visits) (outcome .visitList)
 
+-- An accepted scan visits each bucket once, and nothing else.
+pub VisitsOnce : Memory → Call → Type 0
+VisitsOnce m (Join client) = Unit {0}
+VisitsOnce m (Insert client key payload answer) = Unit {0}
+VisitsOnce m (Search client key answer) = Unit {0}
+VisitsOnce m Split = Unit {0}
+VisitsOnce m (Scan client lift visits matches) =
+    replied m (Scan client lift visits matches) ≡ 0 → (a : ℕ)
+    → (a < bucketsOf (m .file) → times a (visited m client lift visits matches) ≡ 1)
+    × (bucketsOf (m .file) ≤ a → times a (visited m client lift visits matches) ≡ 0)
+VisitsOnce m Check = Unit {0}
+VisitsOnce m (View bucket) = Unit {0}
+VisitsOnce m (Parent bucket) = Unit {0}
+
 -- The client is not joined anew.
 pub NotJoined : ℕ → List Call → Type 0
 NotJoined client [] = Unit {0}
 NotJoined client (call ∷ calls) = (call ≡ Join client → ⊥) × NotJoined client calls
+
+-- ---- from nothing
+
+-- A file that create has just made and any table, the clients joined one after the other.
+pub started : List ℕ → List ℕ → ℕ → ℕ → ℕ → List ℕ → Memory
+started file table b S M clients =
+    run (record { file = create file b S M .file; table = table }) (map Join clients)
+
+-- Create accepts the figures, the table's length is sound, and each client of it is joined.
+pub record FromNothing (file table : List ℕ) (b S M : ℕ) (clients : List ℕ) : Type 0 where
+  pub made : create file b S M .answer ≡ 0
+  pub long : lengthSound table ≡ true
+  pub all-joined : (client : ℕ) → exists table client ≡ true → List·Memᴰ client clients

@@ -18,7 +18,6 @@ use Rattle.address.specs.Rules.Adjust.{after-more}
 use Rattle.address.specs.Rules.Cases.{buckets-is}
 use Rattle.address.specs.Rules.Hash.{span-is, span-pos}
 use Rattle.address.specs.Rules.Route.{Delivered, delivered, forwards-is, forwards-short, route-right, first-right}
-use Rattle.address.specs.Rules.Scan.{times}
 use Rattle.layout.specs.Replies.{reply}
 use Rattle.client.specs.Table.{exists, imageOf, tableSound, tableRefusals, withImage, join}
 use Rattle.client.specs.Table.Keeping.{written-image, written-exists, other-image, table-kept}
@@ -34,7 +33,7 @@ use Rattle.ride.specs.Call.{adjustedTable}
 use Rattle.ride.specs.Call.Keeping.{adjusted-image, adjusted-other, adjusted-exists, adjusted-kept}
 use Rattle.ride.specs.Call.Left.{search-ways, insert-ways}
 use Rattle.demands.specs.Run.{Memory, Call, Join, Insert, Search, Split, Scan, Check, View, Parent, Typed}
-use Rattle.demands.specs.Run.{AllTyped, left, after, run, replied, answered, visited, Ready, Sent, Nothing, Key}
+use Rattle.demands.specs.Run.{AllTyped, Each, left, after, run, replied, answered, visited, VisitsOnce, Ready, Sent, Nothing, Key}
 use Rattle.demands.specs.Run.{sentIf, sent, routeOf, Reached, believed, wrongFirst, forwardsOf, summed, NotJoined}
 use Rattle.scan.specs.Scan.Outcome.{scan-visits-once, scan-visits-only}
 use Rattle.demands.specs.Run.Held.{step, through}
@@ -388,14 +387,26 @@ forwards-summed client m ready (call ∷ calls) typed =
           (ready-step m ready call (typed .0)) calls (typed .1),
     )
 
--- ---- an accepted scan
+-- ---- each call of a run
 
-pub scan-once : (m : Memory) (client lift : ℕ) (visits matches : List ℕ)
-    → replied m (Scan client lift visits matches) ≡ 0
-    → (a : ℕ) → (a < bucketsOf (m .file) → times a (visited m client lift visits matches) ≡ 1)
-    × (bucketsOf (m .file) ≤ a → times a (visited m client lift visits matches) ≡ 0)
-unfolding replied visited answered
-scan-once m client lift visits matches done a = (
+pub each-run : (Holding : Memory → Call → Type 0) → ((m : Memory) → Ready m → (call : Call) → Holding m call)
+    → (m : Memory) → Ready m → (calls : List Call) → AllTyped calls → Each Holding m calls
+unfolding AllTyped Each
+each-run Holding of-call m ready [] typed = tt
+each-run Holding of-call m ready (call ∷ calls) typed =
+    (of-call m ready call, each-run Holding of-call (after m call) (ready-step m ready call (typed .0)) calls (typed .1))
+
+-- an accepted scan
+pub scan-once : (m : Memory) (call : Call) → VisitsOnce m call
+unfolding VisitsOnce replied visited answered
+scan-once m (Join client) = tt
+scan-once m (Insert client key payload answer) = tt
+scan-once m (Search client key answer) = tt
+scan-once m Split = tt
+scan-once m (Scan client lift visits matches) = λ done a. (
   scan-visits-once (m .file) (m .table) client lift visits matches done a,
   scan-visits-only (m .file) (m .table) client lift visits matches done a,
 )
+scan-once m Check = tt
+scan-once m (View bucket) = tt
+scan-once m (Parent bucket) = tt

@@ -1,6 +1,6 @@
 -- Create writes the created file, byte by byte, and that file is sound.
 use Prim.Native.Nat.{ℕ, zero, suc, _+_, _*_, _-_, _/_, _%_, _≤_, _<_}
-use mathlib.Core.Path.{_≡_, refl, sym, ap, ap₂, _∙_}
+use mathlib.Core.Path.{_≡_, refl, sym, ap, ap₂, subst, _∙_}
 use mathlib.Core.Bool.{Bool, true, false, cond, not, _&&_}
 use mathlib.Core.List.{List, [], _∷_, _++_}
 use native.Mathlib.Nat.{suc-mul, add-comm, mul-le-mul-right}
@@ -16,13 +16,14 @@ use Rattle.address.specs.declared.Image.{Image}
 use Rattle.address.specs.Rules.{«at», buckets}
 use Rattle.address.specs.Rules.Hash.{span-is}
 use Rattle.address.specs.Rules.Cases.{buckets-is, level-rest}
-use Rattle.layout.specs.Bytes.{leBytes, marked, allBelow, allZero, edit, part}
+use Rattle.layout.specs.Bytes.{Bytes, leBytes, marked, allBelow, allZero, edit, part}
 use Rattle.layout.specs.Bytes.Tests.{and-both, replicate-zero, zero-all, all-of}
-use Rattle.layout.specs.Bytes.Edit.{edit-seam, part-seam, part-at, length-part}
+use Rattle.layout.specs.Bytes.Edit.{edit-seam, part-seam, part-at, length-part, append-bytes, zeros-bytes}
 use Rattle.layout.specs.Bytes.Numbers.{leBytes-two, le-two}
 use Rattle.layout.specs.Replies.{refuse, reply, reply-none, reply-here, reply-past}
-use Rattle.bucket.specs.Region.{slotAt, bucketSound, encode}
-use Rattle.bucket.specs.Region.Sound.{empty-sound}
+use Rattle.bucket.specs.Region.{slotAt, ridesOf, bucketSound, encode}
+use Rattle.bucket.specs.Region.Held.{encode-bytes}
+use Rattle.bucket.specs.Region.Sound.{empty-sound, rides-encode}
 use Rattle.bucket.specs.Region.Encode.{length-encode}
 use Rattle.file.specs.File.{fileMark, mostOf, stateOf, fileLength, figuresFit, stateFits, bucketsOf, headerSound}
 use Rattle.file.specs.File.{startOf, regionOf, bucketSoundIn, regionSound, fileSound, headerBytes, created}
@@ -141,6 +142,23 @@ create-single file b S M o p eo ep = eo ∙ sym ep
 
 -- ---- the created file is sound
 
+-- a file just made: sound, in state (0, 0), and no bucket holds a ride
+pub record Fresh (file : List ℕ) : Type 0 where
+  pub bytes : Bytes file
+  pub sound : fileSound file ≡ true
+  pub start : stateOf file ≡ «at» 0 0
+  pub empty : (a : ℕ) → a < bucketsOf file → ridesOf (regionOf file a) ≡ []
+
+-- numbers that are bytes, one by one
+abbrev AllLow : List ℕ → Type 0
+AllLow [] = Unit {0}
+AllLow (x ∷ xs) = (x < 256) × AllLow xs
+
+low-bytes : (xs : List ℕ) → AllLow xs → Bytes xs
+low-bytes [] low k = omega arith
+low-bytes (x ∷ xs) low zero = low .0
+low-bytes (x ∷ xs) low (suc k) = low-bytes xs (low .1) k
+
 module _ (b S M : ℕ) (fits : Figures (fileLength S M) b S M) where
   -- its first 16 bytes, and those behind them
   head : List ℕ
@@ -253,11 +271,66 @@ module _ (b S M : ℕ) (fits : Figures (fileLength S M) b S M) where
       ∙ and-both _ _ laid-header
       (all-of (regionSound (head ++ behind)) (mostOf (head ++ behind)) (λ a h. laid-region a (omega (arith, most))))
 
-pub create-sound : (file : List ℕ) (b S M : ℕ) → figuresFit (length file) b S M ≡ true
-    → fileSound (created b S M) ≡ true
-create-sound file b S M h =
+  -- it is bytes, in state (0, 0), and its one bucket holds nothing
+  laid-bytes : Bytes (head ++ behind)
+  unfolding head behind
+  laid-bytes = append-bytes (76 ∷ 70 ∷ 0 ∷ b ∷ 0 ∷ 0 ∷ M % 256 ∷ M / 256 % 256 ∷ S ∷ zeros 7)
+      (encode S 0 [] ++ zeros ((M - 1) * (8 + 24 * S)))
+      (append-bytes figures-bytes (zeros 7) (low-bytes figures-bytes low) (zeros-bytes 7))
+      (append-bytes (encode S 0 []) (zeros ((M - 1) * (8 + 24 * S))) (encode-bytes S 0 [] (omega arith) tt)
+      (zeros-bytes ((M - 1) * (8 + 24 * S))))
+    where
+      figures-bytes : List ℕ
+      figures-bytes = 76 ∷ 70 ∷ 0 ∷ b ∷ 0 ∷ 0 ∷ M % 256 ∷ M / 256 % 256 ∷ S ∷ []
+
+      capacity : b < 256
+      capacity = omega (arith, fits .few-capacity, fits .few-slots)
+
+      low : AllLow figures-bytes
+      low = (
+        omega arith,
+        (
+          omega arith,
+          (
+            omega arith,
+            (
+              capacity,
+              (
+                omega arith,
+                (
+                  omega arith,
+                  (
+                    omega arith,
+                    (
+                      omega arith,
+                      (omega (arith, fits .few-slots), tt),
+                    ),
+                  ),
+                ),
+              ),
+            ),
+          ),
+        ),
+      )
+
+  laid-empty : (a : ℕ) → a < bucketsOf (head ++ behind) → ridesOf (regionOf (head ++ behind) a) ≡ []
+  laid-empty zero there = ap ridesOf first-region ∙ rides-encode S 0 [] tt (omega arith) (omega (arith, fits .few-slots))
+  laid-empty (suc a) there = absurd (omega (arith, laid-buckets))
+
+  pub created-fresh : Fresh (created b S M)
+  created-fresh = subst Fresh (sym is-laid)
+      (record {
+        bytes = laid-bytes;
+        sound = ap fileSound (sym is-laid) ∙ created-sound;
+        start = state;
+        empty = laid-empty;
+      })
+
+-- and so is whatever create accepts
+create-figures : (file : List ℕ) (b S M : ℕ) → figuresFit (length file) b S M ≡ true → Figures (fileLength S M) b S M
+create-figures file b S M h =
     let f = figures (length file) b S M h in
-    created-sound b S M (record {
+    record {
       some-slots = f .some-slots;
       few-slots = f .few-slots;
       some-capacity = f .some-capacity;
@@ -265,4 +338,17 @@ create-sound file b S M h =
       some-buckets = f .some-buckets;
       few-buckets = f .few-buckets;
       whole = refl;
-    })
+    }
+
+pub create-sound : (file : List ℕ) (b S M : ℕ) → figuresFit (length file) b S M ≡ true
+    → fileSound (created b S M) ≡ true
+create-sound file b S M h = created-sound b S M (create-figures file b S M h)
+
+pub create-fresh : (file : List ℕ) (b S M : ℕ) → create file b S M .answer ≡ 0 → Fresh (create file b S M .file)
+create-fresh file b S M = go (figuresFit (length file) b S M) refl
+  where
+    go : (fits : Bool) → figuresFit (length file) b S M ≡ fits → create file b S M .answer ≡ 0
+        → Fresh (create file b S M .file)
+    go true e done = subst Fresh (ap (λ (o : Created). o .file) (create-done file _ b S M e refl))
+        (created-fresh b S M (create-figures file b S M e))
+    go false e done = absurd (omega (arith, done, ap (λ (o : Created). o .answer) (create-refused file b S M e)))
