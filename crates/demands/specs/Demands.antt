@@ -116,9 +116,9 @@ demand-3 m ready calls typed = record {
 }
 
 -- From nothing. A file that create has just made, every client of the table joined, any run: what
--- demands 2 and 3 ask for is there, so both hold; and as nothing is held at the start and a client
--- believes in the first bucket alone, a search that is not refused finds exactly the rides accepted,
--- and a client's wrong first sends number at most the buckets at the end less one.
+-- demands 2 and 3 ask for is there, so both hold. Nothing is held at the start, and a client
+-- believes in the first bucket alone: a search that is not refused finds exactly the rides
+-- accepted, and a client's wrong first sends number at most the buckets at the end less one.
 pub record Demanded (m : Memory) (calls : List Call) : Type 0 where
   pub second : Demand2 m calls
   pub third : Demand3 m calls
@@ -140,8 +140,9 @@ module _ (file table : List ℕ) (b S M : ℕ) (clients : List ℕ)
       → Demanded (started file table b S M clients) calls
   from-nothing calls typed =
       let m = started file table b S M clients in
-      let second = demand-2 m (ready-from-nothing .bytes) (ready-from-nothing .file-sound) calls typed in
-      let third = demand-3 m ready-from-nothing calls typed in
+      let ready = ready-from-nothing in
+      let second = demand-2 m (ready .bytes) (ready .file-sound) calls typed in
+      let third = demand-3 m ready calls typed in
       record {
         second = second;
         third = third;

@@ -19,7 +19,8 @@ use Rattle.address.specs.Rules.Scan.{times}
 use Rattle.layout.specs.Bytes.{Bytes, allZero, part}
 use Rattle.layout.specs.Replies.{Refusal, refuse, reply}
 use Rattle.bucket.specs.Region.{Ride, ridesOf, every}
-use Rattle.client.specs.Table.{Joined, lengthSound, exists, imageOf, tableSound, tableRefusals, join}
+use Rattle.client.specs.Table.{lengthSound, exists, imageOf, tableSound, tableRefusals}
+use Rattle.client.specs.Table.{Joined, join}
 use Rattle.file.specs.File.{mostOf, stateOf, bucketsOf, headerSound, regionOf, bucketSoundIn}
 use Rattle.file.specs.File.{fileSound, lowestUnsound, Checked, check, view, create}
 use Rattle.file.specs.File.{SplitOutcome, split}
