@@ -25,68 +25,93 @@ use Rattle.turn.specs.Session.{Done, madeFile, joinedTable, ran, printed
 
 -- each command, by what its call told and what was written of it
 module _ {at next : ℕ} {entry exit : List ℕ} (file table : List ℕ) where
-  pub split-done : (o : SplitOutcome) → o ≡ split file
-      → WroteLine (lineRoom 2) at (splitLine (o .answer) (o .old) (o .new)) entry exit next
-      → Done (lineRoom 2) (ran file table Split) (o .file) table at entry exit next
+  pub split-done : {answer old new : ℕ} {after : List ℕ}
+      → record { answer = answer; old = old; new = new; file = after } ≡ split file
+      → WroteLine (lineRoom 2) at (splitLine answer old new) entry exit next
+      → Done (lineRoom 2) (ran file table Split) after table at entry exit next
   unfolding ran
-  split-done o e w = subst
-      (λ (p : SplitOutcome). Done (lineRoom 2)
-      (record { file = p .file; table = table; line = splitLine (p .answer) (p .old) (p .new) }) (o .file) table at
-      entry exit next)
-      e
-      (record { holds = refl; knows = refl; prints = w })
-
-  ride-done : (letter : ℕ) (o p : Outcome) → o ≡ p
-      → WroteLine (lineRoom 3) at (rideLine letter (o .block)) entry exit next
-      → Done (lineRoom 3) (record { file = p .file; table = p .table; line = rideLine letter (p .block) }) (o .file)
-      (o .table) at entry exit next
-  ride-done letter o p e w = subst
-      (λ (q : Outcome). Done (lineRoom 3)
-      (record { file = q .file; table = q .table; line = rideLine letter (q .block) }) (o .file) (o .table) at entry
+  split-done {after = after} e w = subst
+      (λ (o : SplitOutcome). Done (lineRoom 2)
+      (record { file = o .file; table = table; line = splitLine (o .answer) (o .old) (o .new) }) after table at entry
       exit next)
       e
       (record { holds = refl; knows = refl; prints = w })
 
-  pub insert-done : (client key : ℕ) (o : Outcome) → o ≡ insert file table client key (replicate 14 0) (replicate 24 0)
-      → WroteLine (lineRoom 3) at (rideLine letterI (o .block)) entry exit next
-      → Done (lineRoom 3) (ran file table (Insert client key)) (o .file) (o .table) at entry exit next
-  unfolding ran
-  insert-done client key o e w = ride-done letterI o (insert file table client key (replicate 14 0) (replicate 24 0)) e
-      w
+  module _ {answer : ℕ} {block after images : List ℕ} where
+    ride-done : (letter : ℕ) (o : Outcome)
+        → record { answer = answer; block = block; table = images; file = after } ≡ o
+        → WroteLine (lineRoom 3) at (rideLine letter block) entry exit next
+        → Done (lineRoom 3) (record { file = o .file; table = o .table; line = rideLine letter (o .block) }) after
+        images at entry exit next
+    ride-done letter o e w = subst
+        (λ (p : Outcome). Done (lineRoom 3)
+        (record { file = p .file; table = p .table; line = rideLine letter (p .block) }) after images at entry exit
+        next)
+        e
+        (record { holds = refl; knows = refl; prints = w })
 
-  pub search-done : (client key : ℕ) (o : Outcome) → o ≡ search file table client key (replicate 24 0)
-      → WroteLine (lineRoom 3) at (rideLine letterS (o .block)) entry exit next
-      → Done (lineRoom 3) (ran file table (Search client key)) (o .file) (o .table) at entry exit next
-  unfolding ran
-  search-done client key o e w = ride-done letterS o (search file table client key (replicate 24 0)) e w
+    pub insert-done : (client key : ℕ)
+        → record { answer = answer; block = block; table = images; file = after }
+        ≡ insert file table client key (replicate 14 0) (replicate 24 0)
+        → WroteLine (lineRoom 3) at (rideLine letterI block) entry exit next
+        → Done (lineRoom 3) (ran file table (Insert client key)) after images at entry exit next
+    unfolding ran
+    insert-done client key e w = ride-done letterI
+        (insert file table client key (replicate 14 0) (replicate 24 0)) e w
 
-  pub scan-done : (client lift count : ℕ) (o : Scanned)
-      → o ≡ scan file table client lift (replicate 16 0) (replicate 64 0) → count ≤ 16
-      → WroteLine (lineRoom count) at (scanLine (o .answer) (take (o .visits) (o .visitList)) (o .matches)) entry exit
-      next
-      → Done (lineRoom 16) (ran file table (Scan client lift)) file table at entry exit next
-  unfolding ran
-  scan-done client lift count o e few w = subst
-      (λ (p : Scanned). Done (lineRoom 16)
-      (record {
-        file = file;
-        table = table;
-        line = scanLine (p .answer) (take (p .visits) (p .visitList))
-            (p .matches);
-      }) file table at entry exit next)
-      e
-      (record { holds = refl; knows = refl; prints = record { wrote = w .wrote; short = omega (arith, w .short) } })
+    pub search-done : (client key : ℕ)
+        → record { answer = answer; block = block; table = images; file = after }
+        ≡ search file table client key (replicate 24 0)
+        → WroteLine (lineRoom 3) at (rideLine letterS block) entry exit next
+        → Done (lineRoom 3) (ran file table (Search client key)) after images at entry exit next
+    unfolding ran
+    search-done client key e w = ride-done letterS (search file table client key (replicate 24 0)) e w
 
-  pub unknown-done : WroteLine (lineRoom 0) at unknownLine entry exit next
+  unknown-done : WroteLine (lineRoom 0) at unknownLine entry exit next
       → Done (lineRoom 0) (ran file table Unknown) file table at entry exit next
   unfolding ran
   unknown-done w = record { holds = refl; knows = refl; prints = w }
 
-pub visits-few : (file table : List ℕ) (client lift : ℕ) (o : Scanned)
-    → o ≡ scan file table client lift (replicate 16 0) (replicate 64 0) → o .visits ≤ 16
-visits-few file table client lift o e =
-    omega
-    (arith, ap (λ (s : Scanned). s .visits) e, visits-fit file table client lift (replicate 16 0) (replicate 64 0))
+-- a scan's visits are at most as many as the list has room for, and so is its line
+module _ (file table : List ℕ) (client lift : ℕ) {answer bucket visits matches : ℕ} {visitList matchList : List ℕ}
+    (is : record {
+      answer = answer;
+      bucket = bucket;
+      visits = visits;
+      matches = matches;
+      visitList = visitList;
+      matchList = matchList;
+    } ≡ scan file table client lift (replicate 16 0) (replicate 64 0)) (whole : length visitList ≡ 16) where
+  pub visits-few : visits ≤ length visitList
+  visits-few = omega
+      (arith, ap (λ (s : Scanned). s .visits) is, visits-fit file table client lift (replicate 16 0) (replicate 64 0))
+
+  pub visits-taken : visits ≡ length (take visits visitList)
+  visits-taken = sym (length-take-le visits visitList visits-few)
+
+  pub visits-room : (at : ℕ) {size : ℕ} → at + lineRoom 16 ≤ size
+      → at + lineRoom (length (take visits visitList)) ≤ size
+  visits-room at fits = omega (arith, visits-few, visits-taken)
+
+  pub scan-done : {at next : ℕ} {entry exit : List ℕ}
+      → WroteLine (lineRoom (length (take visits visitList))) at (scanLine answer (take visits visitList) matches) entry
+      exit next
+      → Done (lineRoom 16) (ran file table (Scan client lift)) file table at entry exit next
+  unfolding ran
+  scan-done {at} {next} {entry} {exit} w = subst
+      (λ (o : Scanned). Done (lineRoom 16)
+      (record {
+        file = file;
+        table = table;
+        line = scanLine (o .answer) (take (o .visits) (o .visitList))
+            (o .matches);
+      }) file table at entry exit next)
+      is
+      (record {
+        holds = refl;
+        knows = refl;
+        prints = record { wrote = w .wrote; short = omega (arith, w .short, visits-few, visits-taken) };
+      })
 
 -- a command's own room is within that of its line, since one with two numbers has at least five bytes
 abbrev pub roomOf : Command → ℕ
@@ -103,7 +128,7 @@ most-room (Search client key) = omega arith
 most-room (Scan client lift) = omega arith
 most-room Unknown = omega arith
 
-pub line-room : (line : List ℕ) (command : Command) → commandOf line ≡ command
+line-room : (line : List ℕ) (command : Command) → commandOf line ≡ command
     → roomOf command ≤ roomFor (length line + 1)
 line-room line command is = go (one-spelling line)
   where
@@ -113,16 +138,47 @@ line-room line command is = go (one-spelling line)
     go (numbers letter client number e some more l) = omega
         (arith, most-room command, ap length l, spelling-long letter client number)
 
-pub line-done : {after images entry exit : List ℕ} {at next : ℕ} (file table line : List ℕ) (command : Command)
-    → commandOf line ≡ command
-    → Done (roomOf command) (ran file table command) after images at entry exit next
-    → Done (roomFor (length line + 1)) (ran file table (commandOf line)) after images at entry exit next
-line-done file table line command is done = rw is (record {
-  holds = done .holds;
-  knows = done .knows;
-  prints =
-      record { wrote = done .prints .wrote; short = omega (arith, done .prints .short, line-room line command is) };
-})
+-- a line's command, by what was read: its own room is there,
+module _ {read : Command} (line : List ℕ) (is : read ≡ commandOf line) (at : ℕ) {size : ℕ}
+    (fits : at + roomFor (length line + 1) ≤ size) where
+  pub split-room : read ≡ Split → at + lineRoom 2 ≤ size
+  split-room told = omega (arith, line-room line Split (sym is ∙ told))
+
+  pub insert-room : {client key : ℕ} → read ≡ Insert client key → at + lineRoom 3 ≤ size
+  insert-room {client} {key} told = omega (arith, line-room line (Insert client key) (sym is ∙ told))
+
+  pub search-room : {client key : ℕ} → read ≡ Search client key → at + lineRoom 3 ≤ size
+  search-room {client} {key} told = omega (arith, line-room line (Search client key) (sym is ∙ told))
+
+  pub scan-room : {client lift : ℕ} → read ≡ Scan client lift → at + lineRoom 16 ≤ size
+  scan-room {client} {lift} told = omega (arith, line-room line (Scan client lift) (sym is ∙ told))
+
+-- and what it does is done.
+module _ {read : Command} (line : List ℕ) (is : read ≡ commandOf line) (command : Command) (told : read ≡ command) where
+  pub line-done : {after images entry exit : List ℕ} {at next : ℕ} (file table : List ℕ)
+      → Done (roomOf command) (ran file table command) after images at entry exit next
+      → Done (roomFor (length line + 1)) (ran file table (commandOf line)) after images at entry exit next
+  line-done file table done = rw (sym is ∙ told) (record {
+    holds = done .holds;
+    knows = done .knows;
+    prints =
+        record {
+          wrote = done .prints .wrote;
+          short = omega (arith, done .prints .short, line-room line command (sym is ∙ told));
+        };
+  })
+
+-- the two commands that no table is lent to
+module _ {at next : ℕ} {entry exit : List ℕ} (file table : List ℕ) {read : Command} (line : List ℕ)
+    (is : read ≡ commandOf line) where
+  pub line-split : {after : List ℕ} → read ≡ Split
+      → ((images : List ℕ) → Done (lineRoom 2) (ran file images Split) after images at entry exit next)
+      → Done (roomFor (length line + 1)) (ran file table (commandOf line)) after table at entry exit next
+  line-split told done = line-done line is Split told file table (done table)
+
+  pub line-unknown : read ≡ Unknown → WroteLine (lineRoom 0) at unknownLine entry exit next
+      → Done (roomFor (length line + 1)) (ran file table (commandOf line)) file table at entry exit next
+  line-unknown told wrote = line-done line is Unknown told file table (unknown-done file table wrote)
 
 -- what is printed of an input's pieces: nothing, what no line feed ends, or a line and the rest
 module _ (file table : List ℕ) where
