@@ -1,6 +1,4 @@
 -- `turn::run_line` goes by the command that the line is.
-use mathlib.Core.Path.{_∙_, sym}
-use native.Mathlib.Omega.{arith}
 use Rattle.turn.specs.Session.Laws.{split-room, insert-room, search-room, scan-room, line-done, line-split, line-unknown}
 use borrow.Author.Needs.{needs}
 use Rattle.turn.proofs.run_line.Statement.{statement}
