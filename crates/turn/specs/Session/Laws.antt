@@ -199,20 +199,27 @@ module _ (file table : List ℕ) where
       let (first, rest, is) = some-piece lineFeed text in
       rw (is, holds, knows)
 
--- what is printed of an input, by what create and four joins told
-pub printed-is : (input : List ℕ) (made : Created) (one two three four : Joined)
-    → made ≡ create (replicate 1680 0) 2 4 16 → one ≡ join (replicate 32 0) 0
-    → two ≡ join (one .table) 1 → three ≡ join (two .table) 2 → four ≡ join (three .table) 3
-    → printedFrom (made .file) (four .table) (pieces lineFeed input) ≡ printed input
+-- what is printed of an input, by what create and four joins told, and what was written of its lines
+pub printed-is : {made one two three four : List ℕ} {answer first second third fourth : ℕ}
+    → record { answer = answer; file = made } ≡ create (replicate 1680 0) 2 4 16
+    → record { answer = first; table = one } ≡ join (replicate 32 0) 0
+    → record { answer = second; table = two } ≡ join one 1
+    → record { answer = third; table = three } ≡ join two 2
+    → record { answer = fourth; table = four } ≡ join three 3
+    → (input : List ℕ) {entry exit : List ℕ} {next : ℕ}
+    → Wrote 0 (printedFrom made four (pieces lineFeed input)) entry exit next → Wrote 0 (printed input) entry exit next
 unfolding printed madeFile joinedTable
-printed-is input made one two three four m e1 e2 e3 e4 =
-    ap₂ (λ (f t : List ℕ). printedFrom f t (pieces lineFeed input)) (ap (λ (o : Created). o .file) m)
-    (ap table e4 ∙ ap (λ (t : List ℕ). join t 3 .table)
-    (ap table e3 ∙ ap (λ (t : List ℕ). join t 2 .table)
-    (ap table e2 ∙ ap (λ (t : List ℕ). join t 1 .table) (ap table e1))))
+printed-is m e1 e2 e3 e4 input {entry} {exit} {next} w = subst (λ (text : List ℕ). Wrote 0 text entry exit next)
+    (ap₂ (λ (file images : List ℕ). printedFrom file images (pieces lineFeed input)) (ap (λ (o : Created). o .file) m)
+    (ap table e4 ∙ joining 3 (ap table e3 ∙ joining 2 (ap table e2 ∙ joining 1 (ap table e1)))))
+    w
   where
     table : Joined → List ℕ
     table j = j .table
+
+    joining : (client : ℕ) {before after : List ℕ} → before ≡ after
+        → join before client .table ≡ join after client .table
+    joining client e = ap (λ (images : List ℕ). join images client .table) e
 
 -- a loop over an input's lines: what is written so far, and what the lines from a place on print, is the whole
 pub record Printing (input file₀ table₀ out₀ : List ℕ) (from : ℕ) (file table out : List ℕ) (at : ℕ) : Type 0 where
@@ -229,12 +236,10 @@ printing-none input file table out =
 
 module _ {input file₀ table₀ out₀ : List ℕ} {from : ℕ} {file table out : List ℕ} {at : ℕ}
     (so : Printing input file₀ table₀ out₀ from file table out at) where
-  module _ (end : ℕ) (is : end ≡ lineEnd input from) (inside : end < length input) where
-    later : from ≤ end
-    later = omega (arith, place-after lineFeed input from)
-
+  module _ {end : ℕ} (is : end ≡ lineEnd input from) (later : from ≤ end) (within : end ≤ length input)
+      (ended : end ≡ length input → ⊥) where
     line-length : length (take (end - from) (drop from input)) ≡ end - from
-    line-length = length-take-le (end - from) (drop from input) (omega (arith, later, length-drop from input))
+    line-length = length-take-le (end - from) (drop from input) (omega (arith, ended, length-drop from input))
 
     pub printing-more : {after images exit : List ℕ} {next : ℕ}
         → Done (roomFor (length (take (end - from) (drop from input)) + 1))
@@ -244,8 +249,8 @@ module _ {input file₀ table₀ out₀ : List ℕ} {from : ℕ} {file table out
       text = so .text ++ line;
       wrote = wrote-both (so .wrote) (done .prints .wrote);
       whole = append-assoc (so .text) line rest ∙ ap (λ (l : List ℕ). so .text ++ l) (sym step) ∙ so .whole;
-      room = omega (arith, done .prints .short, done .prints .wrote .place, later, line-length, so .room);
-      within = omega arith;
+      room = omega (arith, done .prints .short, done .prints .wrote .place, ended, line-length, so .room);
+      within = omega (arith, ended);
     }
       where
         line : List ℕ
@@ -256,20 +261,21 @@ module _ {input file₀ table₀ out₀ : List ℕ} {from : ℕ} {file table out
 
         parts : pieces lineFeed (drop from input)
             ≡ take (end - from) (drop from input) ∷ pieces lineFeed (drop (end + 1) input)
-        parts = rw (add-one, is) (pieces-more lineFeed input from (so .within) (omega arith))
+        parts = rw (add-one, is) (pieces-more lineFeed input from (so .within) (omega (arith, ended)))
 
         step : printedFrom file table (pieces lineFeed (drop from input)) ≡ line ++ rest
         step = rw parts
             (printed-line file table (take (end - from) (drop from input)) (drop (end + 1) input) after images
             (done .holds) (done .knows))
 
-  pub printing-cut : from < length input → lineEnd input from ≡ length input → {exit : List ℕ} {next : ℕ}
+  pub printing-cut : from < length input → {end : ℕ} → end ≡ lineEnd input from → end ≡ length input
+      → {exit : List ℕ} {next : ℕ}
       → WroteLine (lineRoom 0) at unknownLine out exit next
       → Wrote 0 (printedFrom file₀ table₀ (pieces lineFeed input)) out₀ exit next
-  printing-cut some h w = rw (← (so .whole), last) (wrote-both (so .wrote) (w .wrote))
+  printing-cut some is ended w = rw (← (so .whole), last) (wrote-both (so .wrote) (w .wrote))
     where
       last : printedFrom file table (pieces lineFeed (drop from input)) ≡ unknownLine
-      last = rw (pieces-last lineFeed input from (so .within) h)
+      last = rw (pieces-last lineFeed input from (so .within) (sym is ∙ ended))
           (printed-last file table (drop from input) (omega (arith, length-drop from input)))
 
   pub printing-done : length input ≤ from → Wrote 0 (printedFrom file₀ table₀ (pieces lineFeed input)) out₀ out at
