@@ -17,7 +17,7 @@ use Rattle.lines.specs.Bytes.{lineFeed, letterI, letterS}
 use Rattle.lines.specs.Lines.{unknownLine, rideLine, splitLine, scanLine, Wrote, WroteLine, lineRoom}
 use Rattle.lines.specs.Lines.Edit.{wrote-none, wrote-both}
 use Rattle.commands.specs.Text.{pieces, lineEnd, commandOf}
-use Rattle.commands.specs.Text.Pieces.{pieces-none, some-piece, place-after, pieces-more, pieces-last}
+use Rattle.commands.specs.Text.Pieces.{pieces-none, some-piece, pieces-more, pieces-last}
 use Rattle.commands.specs.Text.Spelling.{Spelling, unknown, splits, numbers, one-spelling, spelling-long}
 use Rattle.commands.specs.declared.Command.{Command}
 use Rattle.commands.specs.declared.Command.the-variants.{Split, Insert, Search, Scan, Unknown}

@@ -1,7 +1,6 @@
 -- `ridefile::session::run_lines` goes line by line: what is written so far, and what the rest prints, stays the whole.
 use Prim.Native.Nat.{_-_}
-use mathlib.Core.Path.{_≡_, refl, _∙_, sym}
-use native.Mathlib.Omega.{arith}
+use mathlib.Core.Path.{_≡_, refl}
 use borrow.Author.Needs.{needs}
 use lib.ListN.{length}
 use Rattle.turn.specs.Session.Laws.{Printing, printing-none, printing-more, printing-cut, printing-done}
