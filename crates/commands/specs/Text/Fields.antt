@@ -103,7 +103,8 @@ module _ (letter : ℕ) (one two : List ℕ) {read : Number} (is : read ≡ numb
         pub number-limited : number < limitAfter letter
         number-limited = number-small (limitAfter letter) two number (rw (← limit) (sym next ∙ then-told))
 
-        pub both-numbers : {client : ℕ} → read ≡ Value client → {command : Command} → command ≡ named letter client number
+        pub both-numbers : {client : ℕ} → read ≡ Value client → {command : Command}
+            → command ≡ named letter client number
             → command ≡ ofNumbers letter one two
         both-numbers {client} told e = e
             ∙ sym (numbers-both letter one two client number (sym is ∙ told) (rw (← limit) (sym next ∙ then-told)))

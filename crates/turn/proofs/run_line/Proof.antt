@@ -1,5 +1,6 @@
 -- `turn::run_line` goes by the command that the line is.
-use Rattle.turn.specs.Session.Laws.{split-room, insert-room, search-room, scan-room, line-done, line-split, line-unknown}
+use Rattle.turn.specs.Session.Laws.{split-room, insert-room, search-room, scan-room, line-done, line-split}
+use Rattle.turn.specs.Session.Laws.{line-unknown}
 use borrow.Author.Needs.{needs}
 use Rattle.turn.proofs.run_line.Statement.{statement}
 use Rattle.turn.proofs.run_line.Tie as tie
