@@ -139,9 +139,9 @@ module _ {state image : Image} (known : Scannable state image) where
       turn-children k low high = omega (arith, answered .children k low (omega arith), known .few)
 
       -- and once they are written the scan is one turn further
-      pub turn-next : {after : List ℕ} {end : ℕ}
+      pub visiting-turn : {after : List ℕ} {end : ℕ}
           → (end ≡ tail + (own - told))
           × (take end after ≡ take tail queue ++ born firstBuckets (getD queue handled 0) told (own - told))
           → length after ≡ length queue → Visiting state image after end (handled + 1)
-      turn-next (ee, written) same =
+      visiting-turn (ee, written) same =
           record { fits = omega (arith, few); room = omega (arith, so .room); under-way = rw written next }

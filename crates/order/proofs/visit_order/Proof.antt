@@ -5,8 +5,8 @@ use Prim.Native.Nat.{_-_, _≤_}
 use mathlib.Core.Path.{_≡_, refl}
 use native.Mathlib.Omega.{arith}
 use lib.ListN.{length}
-use Rattle.order.specs.Queue.{Visiting, visiting-start, visiting-done, turn-low, turn-room, turn-children}
-use Rattle.order.specs.Queue.{turn-next}
+use Rattle.order.specs.Queue.{Visiting, visiting-start, visiting-turn, visiting-done}
+use Rattle.order.specs.Queue.{turn-low, turn-room, turn-children}
 use Rattle.order.proofs.visit_order.Statement.{statement}
 use Rattle.order.proofs.visit_order.Tie as tie
 
@@ -68,7 +68,7 @@ loop-again c =
     let all = first .before .before .before in (
       omega arith,
       omega (arith, sent .send-on .kept),
-      turn-next (all .before .before .pre .0) (test .before .loop .inv .2) (all .buckets .ensures)
+      visiting-turn (all .before .before .pre .0) (test .before .loop .inv .2) (all .buckets .ensures)
           (test .loop-test .taken) (told .message-level .ensures) (sent .before .before .level-of .ensures)
           (sent .send-on .ensures) (sent .send-on .kept .1 .1 .1 .1 .0),
     )
