@@ -6,14 +6,19 @@ use mathlib.Core.List.{List, [], _∷_, _++_}
 use borrow.Author.Tests.{eq-eqb, ne-eqb, lt-ltb, le-ltb}
 use lib.Dec.{ltb, eqb}
 use lib.ListN.{length}
-use Rattle.address.specs.Limits.{noBucket}
+use native.Mathlib.Omega.{arith}
+use Rattle.address.specs.Limits.{firstBuckets, noBucket}
+use Rattle.address.specs.declared.Image.{Image}
+use Rattle.address.specs.Rules.{buckets}
 use Rattle.layout.specs.Bytes.{edit}
 use Rattle.layout.specs.Replies.{refuse, reply, reply-none, reply-here, reply-past, reply-append}
 use Rattle.bucket.specs.Region.{every}
 use Rattle.client.specs.Table.{imageOf}
 use Rattle.file.specs.File.{bucketsOf, bucketSoundIn}
+use Rattle.file.specs.File.Region.{buckets-known}
+use Rattle.file.specs.declared.Header.{Header}
 use Rattle.route.specs.Way.{early}
-use Rattle.route.specs.Way.Open.{early-else}
+use Rattle.route.specs.Way.Open.{Opening, early-else}
 use Rattle.scan.specs.declared.ScanAnswer.{ScanAnswer}
 use Rattle.scan.specs.Scan.{Scanned, leaving, matchesOn, visitsOf, firstUnsound, refused, collected, scan}
 
@@ -115,3 +120,22 @@ module _ (file table : List ℕ) (client lift : ℕ) (visits matches : List ℕ)
   pub scan-single : (o p : Scanned) → o ≡ scan file table client lift visits matches
       → p ≡ scan file table client lift visits matches → o ≡ p
   scan-single o p eo ep = eo ∙ sym ep
+
+-- a scan by a client that was opened with reply n, 0: the header counts the buckets
+module _ {file table : List ℕ} {client n : ℕ} (is : n ≡ reply (early file table client) 0) {header : Header}
+    {image : Image} (opened : n ≡ 0 → Opening file table client header image) (zero : n ≡ 0) {b : ℕ}
+    (all : b ≡ buckets firstBuckets (header .state)) (lift : ℕ) (visits matches : List ℕ) where
+  none : reply (early file table client) 0 ≡ 0
+  none = sym is ∙ zero
+
+  exist : b ≡ bucketsOf file
+  exist = buckets-known file header (opened zero .known) b all
+
+  pub opened-short : {r : ScanAnswer} → length visits < b → r ≡ refusal 11 noBucket
+      → leaving r visits matches ≡ scan file table client lift visits matches
+  opened-short {r} short er = scan-short file table client lift visits matches none r er (omega (arith, exist))
+
+  pub opened-long : {o : Scanned} → b ≤ length visits → o ≡ collected file lift (visitsOf file image) visits matches
+      → o ≡ scan file table client lift visits matches
+  opened-long {o} long eo = scan-long file table client lift visits matches none (omega (arith, exist)) o
+      (visitsOf file image) eo (ap (visitsOf file) (opened zero .is))
