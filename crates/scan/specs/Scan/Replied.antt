@@ -3,7 +3,7 @@ use Prim.Native.Nat.{ℕ, _≤_, _<_}
 use mathlib.Core.Path.{_≡_, refl, sym, ap, _∙_}
 use mathlib.Core.Bool.{Bool, true, false, cond, not}
 use mathlib.Core.List.{List, [], _∷_, _++_}
-use borrow.Author.Tests.{eq-eqb, ne-eqb, lt-ltb, le-ltb}
+use borrow.Author.Tests.{eq-eqb, ne-eqb, lt-ltb, le-ltb, not-true, not-false}
 use lib.Dec.{ltb, eqb}
 use lib.ListN.{length}
 use native.Mathlib.Omega.{arith}
@@ -20,6 +20,9 @@ use Rattle.file.specs.declared.Header.{Header}
 use Rattle.route.specs.Way.{early}
 use Rattle.route.specs.Way.Open.{Opening, early-else}
 use Rattle.scan.specs.declared.ScanAnswer.{ScanAnswer}
+use Rattle.scan.specs.Scan.Bits.{selectedOn, noted-match}
+use Rattle.scan.specs.Scan.Fill.{Fitting, noted-fits}
+use Rattle.scan.specs.Scan.Tally.{WayJudged}
 use Rattle.scan.specs.Scan.{Scanned, leaving, matchesOn, visitsOf, firstUnsound, refused, collected, scan}
 
 abbrev pub refusal : ℕ → ℕ → ScanAnswer
@@ -50,6 +53,49 @@ module _ (file : List ℕ) (lift : ℕ) (way visits matches : List ℕ) where
     collected-done room m first second em ef es = rw
         (fine, le-ltb (length matches) (length (matchesOn file lift way)) room)
         (λ i. leaving (acceptance (length way) (em i)) (ef i) (es i))
+
+-- the same by the tally of a way
+module _ {file : List ℕ} {lift : ℕ} {way : List ℕ} {sound : Bool} {bucket m : ℕ} {bits : List ℕ}
+    (judged : WayJudged file lift way sound bucket m bits) where
+  pub judged-unsound : {r : ScanAnswer} (visits matches : List ℕ) → not sound ≡ true → r ≡ refusal 7 bucket
+      → leaving r visits matches ≡ collected file lift way visits matches
+  judged-unsound {r} visits matches failed er =
+      let bad = not-true sound failed in
+      collected-unsound file lift way visits matches r bucket er (sym (judged .all) ∙ bad) (judged .first bad)
+
+  module _ (passed : not sound ≡ false) where
+    fine : sound ≡ true
+    fine = not-false sound passed
+
+    pub judged-sound : every (bucketSoundIn file) way ≡ true
+    judged-sound = sym (judged .all) ∙ fine
+
+    pub judged-short : {r : ScanAnswer} (visits matches : List ℕ) → length matches < m → r ≡ refusal 12 noBucket
+        → leaving r visits matches ≡ collected file lift way visits matches
+    judged-short {r} visits matches short er =
+        collected-short file lift way visits matches judged-sound r er (omega (arith, judged .found fine))
+
+    -- where the list of bits was long enough
+    module _ (old : List ℕ) (same : length bits ≡ length old) (enough : length way ≤ length old) where
+      long : length way ≤ length bits
+      long = omega arith
+
+      is : selectedOn file way bits ≡ matchesOn file lift way
+      is = noted-match file lift way bits long (judged .noted fine)
+
+      pub judged-fits : Fitting file way bits
+      judged-fits = noted-fits file lift way bits long (judged .noted fine)
+
+      module _ (matches : List ℕ) (room : m ≤ length matches) where
+        pub judged-room : length (selectedOn file way bits) ≤ length matches
+        judged-room = omega (arith, judged .found fine, ap length is)
+
+        pub judged-done : {first second : List ℕ} (visits : List ℕ) → first ≡ edit 0 way visits
+            → second ≡ edit 0 (selectedOn file way bits) matches
+            → leaving (acceptance (length way) m) first second ≡ collected file lift way visits matches
+        judged-done {first} {second} visits ef es = collected-done file lift way visits matches judged-sound
+            (omega (arith, judged .found fine)) m first second (judged .found fine) ef
+            (es ∙ ap (λ (l : List ℕ). edit 0 l matches) is)
 
 -- along an equal way
 pub collected-along : (file : List ℕ) (lift : ℕ) (visits matches : List ℕ) (o : Scanned) (way same : List ℕ)
