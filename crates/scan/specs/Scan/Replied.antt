@@ -5,11 +5,11 @@ use mathlib.Core.Bool.{Bool, true, false, cond, not}
 use mathlib.Core.List.{List, [], _∷_, _++_}
 use borrow.Author.Tests.{eq-eqb, ne-eqb, lt-ltb, le-ltb, not-true, not-false}
 use lib.Dec.{ltb, eqb}
-use lib.ListN.{length}
+use lib.ListN.{length, take}
 use native.Mathlib.Omega.{arith}
 use Rattle.address.specs.Limits.{firstBuckets, noBucket}
 use Rattle.address.specs.declared.Image.{Image}
-use Rattle.address.specs.Rules.{buckets}
+use Rattle.address.specs.Rules.{buckets, visits}
 use Rattle.layout.specs.Bytes.{edit}
 use Rattle.layout.specs.Replies.{refuse, reply, reply-none, reply-here, reply-past, reply-append}
 use Rattle.bucket.specs.Region.{every}
@@ -23,6 +23,7 @@ use Rattle.scan.specs.declared.ScanAnswer.{ScanAnswer}
 use Rattle.scan.specs.Scan.Bits.{selectedOn, noted-match}
 use Rattle.scan.specs.Scan.Fill.{Fitting, noted-fits}
 use Rattle.scan.specs.Scan.Tally.{WayJudged}
+use Rattle.scan.specs.Scan.Way.{Starting, starting-visits}
 use Rattle.scan.specs.Scan.{Scanned, leaving, matchesOn, visitsOf, firstUnsound, refused, collected, scan}
 
 abbrev pub refusal : ℕ → ℕ → ScanAnswer
@@ -97,12 +98,14 @@ module _ {file : List ℕ} {lift : ℕ} {way : List ℕ} {sound : Bool} {bucket 
             (omega (arith, judged .found fine)) m first second (judged .found fine) ef
             (es ∙ ap (λ (l : List ℕ). edit 0 l matches) is)
 
--- along an equal way
-pub collected-along : (file : List ℕ) (lift : ℕ) (visits matches : List ℕ) (o : Scanned) (way same : List ℕ)
-    → o ≡ collected file lift way visits matches → way ≡ same
-    → o ≡ collected file lift same visits matches
-collected-along file lift visits matches o way same eo ew = eo
-    ∙ ap (λ (w : List ℕ). collected file lift w visits matches) ew
+-- along the list that was filled
+pub collected-along : {file : List ℕ} {header : Header} {image : Image} → Starting file header image
+    → (queue : List ℕ) {n : ℕ} → n ≡ buckets firstBuckets (header .state)
+    → take (buckets firstBuckets (header .state)) queue ≡ visits firstBuckets (header .state) image
+    → (lift : ℕ) (first second : List ℕ) {o : Scanned} → o ≡ collected file lift (take n queue) first second
+    → o ≡ collected file lift (visitsOf file image) first second
+collected-along {file} given queue {n} en filled lift first second eo = eo
+    ∙ ap (λ (way : List ℕ). collected file lift way first second) (starting-visits given queue n en filled)
 
 module _ (file table : List ℕ) (client lift : ℕ) (visits matches : List ℕ) where
   pub scan-early : (r : ScanAnswer) (n : ℕ) → r ≡ refusal n noBucket → n ≡ reply (early file table client) 0
@@ -126,7 +129,7 @@ module _ (file table : List ℕ) (client lift : ℕ) (visits matches : List ℕ)
     unfolding scan
     scan-long long o way eo ew = rw
         (eq-eqb (reply (early file table client) 0) 0 none, le-ltb (length visits) (bucketsOf file) long)
-        (collected-along file lift visits matches o way (visitsOf file (imageOf table client)) eo ew)
+        (eo ∙ ap (λ (w : List ℕ). collected file lift w visits matches) ew)
 
   -- its reply, as document 01 lists it
   pub scan-reply : scan file table client lift visits matches .answer ≡ reply (early file table client ++ (
