@@ -35,6 +35,10 @@ pub record Way (file way : List ℕ) : Type 0 where
   pub exist : (k : ℕ) → k < length way → getD way k 0 < bucketsOf file
   pub few : length way ≤ mostBuckets
 
+pub way-exists : {file way : List ℕ} → Way file way → {a : ℕ} (k : ℕ) → a ≡ getD way k 0 → k < length way
+    → a < bucketsOf file
+way-exists along k here more = omega (arith, along .exist k more)
+
 -- an element of a list stands there
 pub times-at : (xs : List ℕ) (k : ℕ) → k < length xs → 0 < times (getD xs k 0) xs
 times-at [] k h = absurd (omega arith)
