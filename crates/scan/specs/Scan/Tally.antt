@@ -1,9 +1,10 @@
 -- Judging and counting: what is left to judge and to count of the way is judged and counted as the whole, turn by turn.
 use Prim.Native.Nat.{ℕ, suc, _+_, _*_, _/_, _≤_, _<_}
 use mathlib.Core.Path.{_≡_, refl, sym, ap, _∙_}
-use mathlib.Core.Bool.{Bool, true, false, true≢false}
+use mathlib.Core.Bool.{Bool, true, false, not, true≢false}
 use mathlib.Core.List.{List, [], _∷_, _++_}
 use native.Mathlib.Omega.{arith}
+use borrow.Author.Tests.{not-true, not-false}
 use lib.Dec.{eqb}
 use lib.Count.{ones}
 use lib.ListN.{length, getD, drop, set, length-append, length-set}
@@ -18,7 +19,7 @@ use Rattle.file.specs.declared.Header.{Header}
 use Rattle.bucket.specs.Region.{every}
 use Rattle.scan.specs.Scan.{ofLift, matching, keysIn, matchesOn, firstUnsound}
 use Rattle.scan.specs.Scan.Bits.{bitsOf, bits-count, Noted, note-more}
-use Rattle.scan.specs.Scan.Way.{rest-first, rest-none}
+use Rattle.scan.specs.Scan.Way.{Way, rest-first, rest-none}
 
 -- ---- the matching ones of some keys
 
@@ -133,12 +134,17 @@ module _ {file : List ℕ} {lift : ℕ} {way : List ℕ} {k found : ℕ} {bits :
     noted = λ h i l. so .noted i (omega arith);
   }
 
-  module _ (a : ℕ) (here : a ≡ getD way k 0) (more : k < length way) where
+  pub tally-fits : k < length way → k < length bits
+  tally-fits more = omega (arith, so .long)
+
+  -- the next bucket, found sound or not
+  module _ {a : ℕ} (here : a ≡ getD way k 0) (more : k < length way) {sound : Bool}
+      (judged : sound ≡ bucketSoundIn file a) where
     left : drop k way ≡ a ∷ drop (k + 1) way
     left = rest-first way k more ∙ ap (λ (b : ℕ). b ∷ drop (k + 1) way) (sym here)
 
-    pub tally-stop : bucketSoundIn file a ≡ false → WayJudged file lift way false a 0 bits
-    tally-stop bad = record {
+    pub tally-stop : not sound ≡ true → WayJudged file lift way false a 0 bits
+    tally-stop failed = record {
       all = sym
           (sym (so .sound) ∙ ap (every (bucketSoundIn file)) left
           ∙ every-fails (bucketSoundIn file) a (drop (k + 1) way) bad);
@@ -146,20 +152,36 @@ module _ {file : List ℕ} {lift : ℕ} {way : List ℕ} {k found : ℕ} {bits :
       found = λ h. absurd (true≢false (sym h));
       noted = λ h. absurd (true≢false (sym h));
     }
+      where
+        bad : bucketSoundIn file a ≡ false
+        bad = sym judged ∙ not-true sound failed
 
-    module _ (fine : bucketSoundIn file a ≡ true) (few : length (keysIn file a) ≤ mostSlots) (b : ℕ)
+    pub tally-sound : not sound ≡ false → bucketSoundIn file a ≡ true
+    tally-sound passed = sym judged ∙ not-false sound passed
+
+    module _ (passed : not sound ≡ false) {header : Header} (seen : Known file header) {b : ℕ}
         (eb : b ≡ bitsOf lift (keysIn file a)) where
+      fine : bucketSoundIn file a ≡ true
+      fine = tally-sound passed
+
+      few : length (keysIn file a) ≤ mostSlots
+      few = keys-few seen a fine
+
       matches : ones b ≡ length (matching lift (keysIn file a))
       matches = ap ones eb ∙ bits-count lift (keysIn file a)
 
-      pub tally-few : ones b ≤ mostSlots
-      tally-few = omega (arith, matches, match-few lift (keysIn file a))
+      most : ones b ≤ mostSlots
+      most = omega (arith, few, matches, match-few lift (keysIn file a))
+
+      -- the count stays a number of 32 bits
+      pub tally-few : Way file way → found + ones b < 4294967296
+      tally-few along = omega (arith, most, so .few, along .few)
 
       pub tally-more : Tallied file lift way (k + 1) (found + ones b) (set bits k b)
       tally-more = record {
         within = omega arith;
         long = omega (arith, so .long, length-set bits k b);
-        few = omega (arith, so .few, tally-few);
+        few = omega (arith, so .few, most);
         sound = sym (every-next (bucketSoundIn file) a (drop (k + 1) way) fine)
             ∙ ap (every (bucketSoundIn file)) (sym left) ∙ so .sound;
         first = sym (unsound-later file a (drop (k + 1) way) fine) ∙ ap (firstUnsound file) (sym left) ∙ so .first;
