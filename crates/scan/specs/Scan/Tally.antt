@@ -1,7 +1,7 @@
 -- Judging and counting: what is left to judge and to count of the way is judged and counted as the whole, turn by turn.
-use Prim.Native.Nat.{ℕ, suc, _+_, _*_, _/_, _≤_, _<_}
+use Prim.Native.Nat.{ℕ, suc, _+_, _-_, _*_, _/_, _≤_, _<_}
 use mathlib.Core.Path.{_≡_, refl, sym, ap, _∙_}
-use mathlib.Core.Bool.{Bool, true, false, not, true≢false}
+use mathlib.Core.Bool.{Bool, true, false, cond, not, true≢false}
 use mathlib.Core.List.{List, [], _∷_, _++_}
 use native.Mathlib.Omega.{arith}
 use borrow.Author.Tests.{not-true, not-false}
@@ -10,6 +10,7 @@ use lib.Count.{ones}
 use lib.ListN.{length, getD, drop, set, length-append, length-set}
 use Rattle.address.specs.Limits.{noBucket, mostSlots}
 use Rattle.bucket.specs.Region.{countOf, keyAt}
+use Rattle.bucket.specs.Region.Divide.{one-at-most}
 use Rattle.bucket.specs.Region.Keep.{keys-count, keys-at}
 use Rattle.bucket.specs.Region.Every.{every-fails, every-next, every-none}
 use Rattle.file.specs.File.{regionOf, bucketSoundIn}
@@ -18,7 +19,8 @@ use Rattle.file.specs.File.Region.{sound-few}
 use Rattle.file.specs.declared.Header.{Header}
 use Rattle.bucket.specs.Region.{every}
 use Rattle.scan.specs.Scan.{ofLift, matching, keysIn, matchesOn, firstUnsound}
-use Rattle.scan.specs.Scan.Bits.{bitsOf, bits-count, Noted, note-more}
+use Rattle.scan.specs.Scan.Bits.{bitsOf, bits-count, Tested, test-none, test-more, test-room, Noted}
+use Rattle.scan.specs.Scan.Bits.{note-more}
 use Rattle.scan.specs.Scan.Way.{Way, rest-first, rest-none}
 
 -- ---- the matching ones of some keys
@@ -50,7 +52,7 @@ match-few lift (key ∷ keys) = go (ofLift lift key) refl (match-few lift keys)
     go true e rest = omega (arith, ap length (match-in lift key keys e))
     go false e rest = omega (arith, ap length (match-out lift key keys e))
 
--- ---- the buckets of a way, judged and counted
+-- ---- the keys of a bucket, and their bits by its slots
 
 pub keys-in-count : (file : List ℕ) (a : ℕ) → length (keysIn file a) ≡ countOf (regionOf file a)
 unfolding keysIn
@@ -65,6 +67,34 @@ pub key-of : (file : List ℕ) (a k : ℕ) → k < countOf (regionOf file a)
     → keyAt (regionOf file a) k ≡ getD (keysIn file a) k 0
 unfolding keysIn
 key-of file a k used = sym (keys-at (regionOf file a) k used)
+
+pub tested-none : (file : List ℕ) (a lift k : ℕ) → k ≡ countOf (regionOf file a) → Tested lift (keysIn file a) k 0
+tested-none file a lift k e = test-none lift (keysIn file a) k (e ∙ sym (keys-in-count file a))
+
+module _ (file : List ℕ) (a : ℕ) {lift k bits : ℕ} (so : Tested lift (keysIn file a) k bits) where
+  pub tested-done : k ≡ 0 → bits ≡ bitsOf lift (keysIn file a)
+  tested-done end = so .is ∙ ap (λ (n : ℕ). bitsOf lift (drop n (keysIn file a))) end
+
+  module _ (some : k ≡ 0 → ⊥) where
+    pub tested-used : k - 1 < countOf (regionOf file a)
+    tested-used = omega (arith, so .within, keys-in-count file a)
+
+    pub tested-more : (key : ℕ) → key ≡ keyAt (regionOf file a) (k - 1) → {match : Bool} → match ≡ ofLift lift key
+        → {bit : ℕ} → bit ≡ cond match 1 0 → Tested lift (keysIn file a) (k - 1) (bits * 2 + bit)
+    tested-more key ek em {bit} eb = test-more so some bit
+        (eb ∙ ap (λ (m : Bool). cond m 1 0)
+        (em ∙ ap (ofLift lift) (ek ∙ key-of file a (k - 1) tested-used)))
+
+    -- they stay a number of 64 bits
+    module _ {header : Header} (seen : Known file header) (sound : bucketSoundIn file a ≡ true) where
+      pub tested-room : bits * 2 < 18446744073709551616
+      tested-room = omega (arith, test-room so some (keys-few seen a sound))
+
+      pub tested-full : (match : Bool) {bit : ℕ} → bit ≡ cond match 1 0 → bits * 2 + bit < 18446744073709551616
+      tested-full match {bit} eb = omega
+          (arith, test-room so some (keys-few seen a sound), one-at-most match bit eb)
+
+-- ---- the buckets of a way, judged and counted
 
 pub matches-first : (file : List ℕ) (lift a : ℕ) (way : List ℕ)
     → matchesOn file lift (a ∷ way) ≡ matching lift (keysIn file a) ++ matchesOn file lift way
@@ -86,8 +116,8 @@ unfolding firstUnsound
 unsound-later file a way h = rw h
 
 -- what a tally tells of a way
-pub record WayJudged (file : List ℕ) (lift : ℕ) (way : List ℕ) (sound : Bool) (bucket matches : ℕ) (bits : List ℕ) : Type
-    0 where
+pub record WayJudged (file : List ℕ) (lift : ℕ) (way : List ℕ) (sound : Bool) (bucket matches : ℕ) (bits : List ℕ)
+    : Type 0 where
   pub all : sound ≡ every (bucketSoundIn file) way
   pub first : sound ≡ false → bucket ≡ firstUnsound file way
   pub found : sound ≡ true → matches ≡ length (matchesOn file lift way)
