@@ -1,8 +1,11 @@
 -- `scan::match_bits`: the bits of the keys from the k-th on, found from the last to the first.
 use borrow.Author.Needs.{needs}
+use Prim.Native.Nat.{_≤_, _<_}
+use native.Mathlib.Omega.{arith}
+use Rattle.bucket.specs.Region.Divide.{one-at-most}
 use Rattle.scan.specs.Scan.{keysIn}
 use Rattle.scan.specs.Scan.Bits.{Tested}
-use Rattle.scan.specs.Scan.Tally.{tested-none, tested-used, tested-more, tested-room, tested-full, tested-done}
+use Rattle.scan.specs.Scan.Tally.{tested-none, tested-used, tested-more, tested-room, tested-done}
 use Rattle.scan.proofs.match_bits.Statement.{statement}
 use Rattle.scan.proofs.match_bits.Tie as tie
 
@@ -22,7 +25,9 @@ sub-k : tie.Need-sub-k Inv-loop μ-loop
 sub-k c = search needs
 
 mul-bits : tie.Need-mul-bits Inv-loop μ-loop
-mul-bits c = record { fits = search tested-room }
+mul-bits c =
+    let room : c .before .loop .bits < 9223372036854775808 = search tested-room in
+    record { fits = omega arith }
 
 key-in-requires : tie.Need-key-in-requires Inv-loop μ-loop
 key-in-requires c κs = (search needs, search needs, search needs, search tested-used)
@@ -34,7 +39,10 @@ chosen-requires : tie.Need-chosen-requires Inv-loop μ-loop
 chosen-requires c κs = search needs
 
 add-bits : tie.Need-add-bits Inv-loop μ-loop
-add-bits c = record { fits = search tested-full }
+add-bits c =
+    let room : c .before .before .before .before .loop .bits < 9223372036854775808 = search tested-room in
+    let one : c .chosen .result ≤ 1 = search one-at-most in
+    record { fits = omega arith }
 
 loop-less : tie.Need-loop-less Inv-loop μ-loop
 loop-less c = search needs

@@ -10,7 +10,6 @@ use lib.Count.{ones}
 use lib.ListN.{length, getD, drop, set, length-append, length-set}
 use Rattle.address.specs.Limits.{noBucket, mostSlots}
 use Rattle.bucket.specs.Region.{countOf, keyAt}
-use Rattle.bucket.specs.Region.Divide.{one-at-most}
 use Rattle.bucket.specs.Region.Keep.{keys-count, keys-at}
 use Rattle.bucket.specs.Region.Every.{every-fails, every-next, every-none}
 use Rattle.file.specs.File.{regionOf, bucketSoundIn}
@@ -85,14 +84,9 @@ module _ (file : List ℕ) (a : ℕ) {lift k bits : ℕ} (so : Tested lift (keys
         (eb ∙ ap (λ (m : Bool). cond m 1 0)
         (em ∙ ap (ofLift lift) (ek ∙ key-of file a (k - 1) tested-used)))
 
-    -- they stay a number of 64 bits
-    module _ {header : Header} (seen : Known file header) (sound : bucketSoundIn file a ≡ true) where
-      pub tested-room : bits * 2 < 18446744073709551616
-      tested-room = omega (arith, test-room so some (keys-few seen a sound))
-
-      pub tested-full : (match : Bool) {bit : ℕ} → bit ≡ cond match 1 0 → bits * 2 + bit < 18446744073709551616
-      tested-full match {bit} eb = omega
-          (arith, test-room so some (keys-few seen a sound), one-at-most match bit eb)
+    -- there is room for one more
+    pub tested-room : {header : Header} → Known file header → bucketSoundIn file a ≡ true → bits < 9223372036854775808
+    tested-room seen sound = test-room so some (keys-few seen a sound)
 
 -- ---- the buckets of a way, judged and counted
 
