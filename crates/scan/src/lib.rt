@@ -10,7 +10,7 @@ ghost use Rattle.layout.specs.Bytes.{edit};
 ghost use Rattle.bucket.specs.Region.{every};
 ghost use Rattle.file.specs.File.{bucketsOf, bucketSoundIn};
 ghost use Rattle.file.specs.File.Judge.{Known};
-ghost use Rattle.scan.specs.Scan.{ofLift, keysIn, visitsOf, collected, leaving, scan};
+ghost use Rattle.scan.specs.Scan.{ofLift, keysIn, visitsOf, refusal, collected, leaving, scan};
 ghost use Rattle.scan.specs.Scan.Bits.{bitsOf, selected, selectedOn};
 ghost use Rattle.scan.specs.Scan.Fill.{Fitting};
 ghost use Rattle.scan.specs.Scan.Tally.{WayJudged};
@@ -152,7 +152,7 @@ fn put_matches(file: &[u8], header: Header, way: &[u16], bits: &[u64], matches: 
 
 // A refused scan's answer.
 fn refused_scan(reply: u32, bucket: u32) -> ScanAnswer
-    ensures { λ r. ⌜ r ≡ record { reply = reply; bucket = bucket; visits = 0; matches = 0 } ⌝ }
+    ensures { λ r. ⌜ r ≡ refusal reply bucket ⌝ }
 {
     ScanAnswer {
         reply,
