@@ -69,10 +69,7 @@ add-slot c =
     let at = c .before .before in
     let d = at .before .before .before in
     let short = keys-few (d .pre .0) (d .args .bucket) (d .pre .2) in
-    record {
-      fits = omega
-          (arith, short, fill-within (at .loop .inv) short (c .before .loop-test .taken));
-    }
+    record { fits = omega (arith, short, fill-within (at .loop .inv) short (c .before .loop-test .taken)) }
 
 add-filled : tie.Need-add-filled Inv-loop μ-loop
 add-filled c = search needs
@@ -95,11 +92,11 @@ loop-again c =
     let l = at .loop in
     let some = c .before .loop-test .taken in
     let short = keys-few (d .pre .0) (a .bucket) (d .pre .2) in
-    let used : l .slot + trailingZeros 64 (l .left)
-    < countOf (regionOf (a .file .now) (a .bucket)) = omega
-    (arith, fill-within (l .inv) short some, keys-in-count (a .file .now) (a .bucket)) in
+    let k = l .slot + trailingZeros 64 (l .left) in
+    let used : k < countOf (regionOf (a .file .now) (a .bucket)) =
+    omega (arith, fill-within (l .inv) short some, keys-in-count (a .file .now) (a .bucket)) in
     fill-more (l .inv) short some (d .pre .4) (c .key-in .result)
-    (c .key-in .ensures ∙ key-of (a .file .now) (a .bucket) (l .slot + trailingZeros 64 (l .left)) used)
+    (c .key-in .ensures ∙ key-of (a .file .now) (a .bucket) k used)
 
 same-length : tie.Need-same-length Inv-loop μ-loop
 same-length c = search needs

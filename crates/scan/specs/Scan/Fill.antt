@@ -59,12 +59,14 @@ module _ {keys : List ℕ} {bits from : ℕ} {old : List ℕ} {left slot filled 
   pub fill-done : left ≡ 0 → (filled ≡ from + length (selected bits keys)) × (now ≡ edit from (selected bits keys) old)
   fill-done end = (
     omega (arith, so .count, ap length nothing),
-    sym
-        (ap (λ (l : List ℕ). edit filled l now) nothing ∙ edit-nothing filled now) ∙ so .is,
+    sym kept ∙ so .is,
   )
     where
       nothing : selected left (drop slot keys) ≡ []
       nothing = ap (λ (b : ℕ). selected b (drop slot keys)) end ∙ select-none (drop slot keys)
+
+      kept : edit filled (selected left (drop slot keys)) now ≡ now
+      kept = ap (λ (l : List ℕ). edit filled l now) nothing ∙ edit-nothing filled now
 
   module _ (short : length keys ≤ mostSlots) (some : left ≡ 0 → ⊥) where
     abbrev zeros : ℕ
@@ -137,10 +139,11 @@ write-none file way bits old sound room =
 
 module _ {file way bits old : List ℕ} {k filled : ℕ} {now : List ℕ} (so : Written file way bits old k filled now) where
   pub write-done : length way ≤ k → now ≡ edit 0 (selectedOn file way bits) old
-  write-done end = sym
-      (ap (λ (l : List ℕ). edit filled l now)
-      (ap (λ (l : List ℕ). selectedOn file l (drop k bits)) (rest-none way k end) ∙ selected-none file (drop k bits))
-      ∙ edit-nothing filled now) ∙ so .is
+  write-done end = sym (ap (λ (l : List ℕ). edit filled l now) nothing ∙ edit-nothing filled now) ∙ so .is
+    where
+      nothing : selectedOn file (drop k way) (drop k bits) ≡ []
+      nothing = ap (λ (l : List ℕ). selectedOn file l (drop k bits)) (rest-none way k end)
+          ∙ selected-none file (drop k bits)
 
   module _ {a : ℕ} (here : a ≡ getD way k 0) (more : k < length way) where
     onto : drop k way ≡ a ∷ drop (k + 1) way

@@ -53,6 +53,7 @@ module _ (file table : List ℕ) (client lift : ℕ) (visits matches : List ℕ)
   abbrev outcome : Scanned
   outcome = scan file table client lift visits matches
 
+  -- refused by a reply that is not 0, with a bucket's number for 7 alone
   pub record Refused : Type 0 where
     pub number : ℕ
     pub bucket : ℕ
@@ -60,6 +61,7 @@ module _ (file table : List ℕ) (client lift : ℕ) (visits matches : List ℕ)
     pub none : (number ≡ 7 → ⊥) → bucket ≡ noBucket
     pub is : outcome ≡ leaving (refusal number bucket) visits matches
 
+  -- accepted: 2 to 6 and 11 are passed, every bucket on the way is sound, and both lists are written
   pub record Collected : Type 0 where
     pub passes : Passed file table client
     pub long : bucketsOf file ≤ length visits

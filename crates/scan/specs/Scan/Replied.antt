@@ -1,4 +1,5 @@
--- A scan's outcome by its cases, in the replies' order; and no second outcome fits.
+-- A scan's outcome by its cases, in the replies' order, each also by what the code has found out until then; and no
+-- second outcome fits.
 use Prim.Native.Nat.{ℕ, _≤_, _<_}
 use mathlib.Core.Path.{_≡_, refl, sym, ap, _∙_}
 use mathlib.Core.Bool.{Bool, true, false, cond, not}

@@ -145,15 +145,14 @@ module _ {file : List ℕ} {lift : ℕ} {way : List ℕ} {k found : ℕ} {bits :
     (so : Tallied file lift way k found bits) where
   pub tally-done : length way ≤ k → WayJudged file lift way true noBucket found bits
   tally-done end = record {
-    all = sym
-        (sym (so .sound) ∙ ap (every (bucketSoundIn file)) (rest-none way k end) ∙ every-none (bucketSoundIn file));
+    all = sym (every-none (bucketSoundIn file)) ∙ ap (every (bucketSoundIn file)) (sym (rest-none way k end))
+        ∙ so .sound;
     first = λ h. absurd (true≢false h);
     found = λ h. omega (
       arith,
       so .counted,
       ap (λ (l : List ℕ). length (matchesOn file lift l)) (rest-none way k end),
-      ap length
-          (matches-none file lift),
+      ap length (matches-none file lift),
     );
     noted = λ h i l. so .noted i (omega arith);
   }
@@ -169,9 +168,8 @@ module _ {file : List ℕ} {lift : ℕ} {way : List ℕ} {k found : ℕ} {bits :
 
     pub tally-stop : not sound ≡ true → WayJudged file lift way false a 0 bits
     tally-stop failed = record {
-      all = sym
-          (sym (so .sound) ∙ ap (every (bucketSoundIn file)) left
-          ∙ every-fails (bucketSoundIn file) a (drop (k + 1) way) bad);
+      all = sym (every-fails (bucketSoundIn file) a (drop (k + 1) way) bad)
+          ∙ ap (every (bucketSoundIn file)) (sym left) ∙ so .sound;
       first = λ h. sym (unsound-here file a (drop (k + 1) way) bad) ∙ ap (firstUnsound file) (sym left) ∙ so .first;
       found = λ h. absurd (true≢false (sym h));
       noted = λ h. absurd (true≢false (sym h));
