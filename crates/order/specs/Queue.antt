@@ -45,40 +45,37 @@ pub record Visiting (state image : Image) (queue : List ℕ) (tail handled : ℕ
   pub room : buckets firstBuckets state ≤ length queue
   pub under-way : Scanning firstBuckets state image handled (take tail queue)
 
--- What the turn of bucket a, of level j with message level l, finds: j is low, the bucket's children exist, there is
--- room for them, and they are written next.
-pub record Turn (state image : Image) (queue : List ℕ) (tail handled a l j : ℕ) : Type 0 where
-  pub low : Room firstBuckets j
-  pub children : (k : ℕ) → l ≤ k → k < j → child firstBuckets a k < buckets firstBuckets state
-  pub fits : tail + (j - l) ≤ buckets firstBuckets state
-  pub next : (after : List ℕ) (end : ℕ) → end ≡ tail + (j - l)
-      → take end after ≡ take tail queue ++ born firstBuckets a l (j - l)
-      → length after ≡ length queue → Visiting state image after end (handled + 1)
-
 some-first : 0 < firstBuckets
 some-first = omega arith
 
-module _ (state image : Image) (known : Scannable state image) where
-  pub visiting-start : (queue : List ℕ) (tail : ℕ) → tail ≡ buckets firstBuckets image
+module _ {state image : Image} (known : Scannable state image) where
+  pub visiting-start : (entry : List ℕ) {queue : List ℕ} {tail : ℕ} → tail ≡ buckets firstBuckets image
       → take tail queue ≡ numbers 0 tail
-      → buckets firstBuckets state ≤ length queue → Visiting state image queue tail 0
-  visiting-start queue tail et e room = record {
+      → length queue ≡ length entry → buckets firstBuckets state ≤ length entry → Visiting state image queue tail 0
+  visiting-start entry {queue} {tail} et e same room = record {
     fits = omega (arith, known .behind);
-    room = room;
+    room = omega arith;
     under-way = rw (e ∙ ap (numbers 0) et)
         (scanning-start firstBuckets some-first state (known .formed) image (known .image-formed) (known .behind));
   }
 
-  module _ (queue : List ℕ) (tail handled : ℕ) (so : Visiting state image queue tail handled) where
-    pub visiting-done : handled ≡ buckets firstBuckets state → take handled queue ≡ visits firstBuckets state image
-    visiting-done e = sym (take-take handled tail queue all) ∙ done
+  module _ {queue : List ℕ} {tail handled : ℕ} (so : Visiting state image queue tail handled) {count : ℕ}
+      (all : count ≡ buckets firstBuckets state) where
+    -- once every bucket has had its turn, the list is the visits
+    pub visiting-done : handled ≤ count → count ≤ handled
+        → take (buckets firstBuckets state) queue ≡ visits firstBuckets state image
+    visiting-done most least = ap (λ (n : ℕ). take n queue) (sym end) ∙ sym (take-take handled tail queue written)
+        ∙ done
       where
+        end : handled ≡ buckets firstBuckets state
+        end = omega arith
+
         done : take handled (take tail queue) ≡ visits firstBuckets state image
         done = scanning-done firstBuckets some-first state (known .formed) image (known .image-formed) (known .behind)
-            handled (take tail queue) (so .under-way) e
+            handled (take tail queue) (so .under-way) end
 
-        all : handled ≤ tail
-        all = omega (
+        written : handled ≤ tail
+        written = omega (
           arith,
           visits-length firstBuckets some-first state (known .formed) image (known .image-formed)
               (known .behind),
@@ -87,49 +84,64 @@ module _ (state image : Image) (known : Scannable state image) where
           length-take tail queue,
         )
 
-    -- the turn of the next bucket a, of level j, with message level l
-    module _ (more : handled < buckets firstBuckets state) (a l j : ℕ) (ea : a ≡ getD queue handled 0)
-        (told : Told firstBuckets image a l)
-        (ej : j ≡ level firstBuckets state a) where
+    -- the turn of the next bucket, of level `own`, with message level `told`
+    module _ (more : handled < count) {told own : ℕ} (et : Told firstBuckets image (getD queue handled 0) told)
+        (eo : own ≡ level firstBuckets state (getD queue handled 0)) where
+      abbrev bucket : ℕ
+      bucket = getD queue handled 0
+
+      abbrev sent : List ℕ
+      sent = take tail queue ++ born firstBuckets bucket told (own - told)
+
+      left : handled < buckets firstBuckets state
+      left = omega arith
+
       reached : handled < tail
       reached = omega (
         arith,
         scanning-waits firstBuckets some-first state (known .formed) image (known .image-formed) (known .behind) handled
-            (take tail queue) (so .under-way) more,
+            (take tail queue) (so .under-way) left,
         length-take tail queue,
       )
 
-      answered : Answered firstBuckets state image handled (take tail queue) a l
+      answered : Answered firstBuckets state image handled (take tail queue) bucket told
       answered = scanning-next firstBuckets some-first state (known .formed) image (known .image-formed) (known .behind)
-          handled (take tail queue) (so .under-way) more a l
-          (ea ∙ sym (getD-take tail queue handled 0 reached)) told
+          handled (take tail queue) (so .under-way) left bucket told
+          (sym (getD-take tail queue handled 0 reached)) et
 
-      next : Scanning firstBuckets state image (handled + 1) (take tail queue ++ born firstBuckets a l (j - l))
-      next = rw (add-one handled, ej) (answered .next)
+      next : Scanning firstBuckets state image (handled + 1) sent
+      next = rw (add-one handled, eo) (answered .next)
 
-      few : tail + (j - l) ≤ buckets firstBuckets state
+      few : tail + (own - told) ≤ buckets firstBuckets state
       few = omega (
         arith,
         scanning-few firstBuckets some-first state (known .formed) image (known .image-formed) (known .behind)
-            (handled + 1) (take tail queue ++ born firstBuckets a l (j - l)) next,
-        length-append (take tail queue) (born firstBuckets a l (j - l)),
+            (handled + 1) sent next,
+        length-append (take tail queue) (born firstBuckets bucket told (own - told)),
         length-take tail queue,
-        born-length firstBuckets a l (j - l),
+        born-length firstBuckets bucket told (own - told),
         so .fits,
         so .room,
       )
 
-      pub visiting-turn : Turn state image queue tail handled a l j
-      visiting-turn = record {
-        low =
-            record {
-              some = some-first;
-              few = omega arith;
-              low = omega
-                  (arith, level-high firstBuckets state a, known .room .levels .low);
-            };
-        children = λ k low high. answered .children k low (omega arith);
-        fits = few;
-        next = λ after end ee e same.
-            record { fits = omega (arith, few); room = omega (arith, so .room); under-way = rw e next };
+      -- its level is low, there is room for its children, and they exist
+      pub turn-low : Room firstBuckets own
+      turn-low = record {
+        some = some-first;
+        few = omega arith;
+        low = omega (arith, level-high firstBuckets state bucket, known .room .levels .low);
       }
+
+      pub turn-room : tail + (own - told) ≤ length queue
+      turn-room = omega (arith, few, so .room)
+
+      pub turn-children : (k : ℕ) → told ≤ k → k < own → child firstBuckets (getD queue handled 0) k < 65536
+      turn-children k low high = omega (arith, answered .children k low (omega arith), known .few)
+
+      -- and once they are written the scan is one turn further
+      pub visiting-turn : {after : List ℕ} {end : ℕ}
+          → (end ≡ tail + (own - told))
+          × (take end after ≡ take tail queue ++ born firstBuckets (getD queue handled 0) told (own - told))
+          → length after ≡ length queue → Visiting state image after end (handled + 1)
+      visiting-turn (ee, written) same =
+          record { fits = omega (arith, few); room = omega (arith, so .room); under-way = rw written next }

@@ -1,13 +1,12 @@
 -- `order::visit_order`: the list holds all messages sent so far, of which the first ones are handled; each turn handles
 -- one and writes what it sends. Once all buckets have had their turn, the list is the visits.
 use borrow.Author.Needs.{needs}
-use Prim.Native.Nat.{ℕ, _-_, _≤_}
-use mathlib.Core.Path.{_≡_, refl, sym, ap, _∙_}
+use Prim.Native.Nat.{_-_, _≤_}
+use mathlib.Core.Path.{_≡_, refl}
 use native.Mathlib.Omega.{arith}
-use lib.ListN.{length, take, getD}
-use Rattle.address.specs.Limits.{firstBuckets}
-use Rattle.address.specs.Rules.{buckets}
+use lib.ListN.{length}
 use Rattle.order.specs.Queue.{Visiting, visiting-start, visiting-turn, visiting-done}
+use Rattle.order.specs.Queue.{turn-low, turn-room, turn-children}
 use Rattle.order.proofs.visit_order.Statement.{statement}
 use Rattle.order.proofs.visit_order.Tie as tie
 
@@ -34,15 +33,7 @@ send-first-requires : tie.Need-send-first-requires Inv-loop μ-loop
 send-first-requires c κs = search needs
 
 loop-holds : tie.Need-loop-holds Inv-loop μ-loop
-loop-holds c =
-    let p = c .before .before .before .before .before .before .before .pre in
-    let a = c .before .before .before .before .before .before .before .args in (
-      omega arith,
-      refl,
-      visiting-start (a .state) (a .image) (p .0) _
-          (c .before .before .before .before .buckets2 .result) (c .before .before .before .before .buckets2 .ensures)
-          (c .before .before .send-first .ensures) (omega (arith, c .before .before .send-first .kept)),
-    )
+loop-holds c = (omega arith, refl, search visiting-start)
 
 mul-bucket : tie.Need-mul-bucket Inv-loop μ-loop
 mul-bucket c = search needs
@@ -60,22 +51,7 @@ level-of-requires : tie.Need-level-of-requires Inv-loop μ-loop
 level-of-requires c κs = search needs
 
 send-on-requires : tie.Need-send-on-requires Inv-loop μ-loop
-send-on-requires c κs =
-    let p =
-    c .before .before .before .before .before .before .before .before .before .before .before .before .before .pre
-    in
-    let a =
-    c .before .before .before .before .before .before .before .before .before .before .before .before .before .args
-    in
-    let l = c .before .before .before .before .before .loop in
-    let t = visiting-turn (a .state) (a .image) (p .0) (l .queue) (l .tail) (l .handled) (l .inv .2)
-    (omega (
-      arith,
-      c .before .before .before .before .before .before .before .before .before .before .before .buckets .ensures,
-    ))
-    (getD (l .queue) (l .handled) 0) (c .before .before .message-level .result) (c .before .level-of .result) refl
-    (c .before .before .message-level .ensures) (c .before .level-of .ensures) in
-    (t .low, omega (arith, t .fits, l .inv .2 .room), λ k low high. omega (arith, t .children k low high, p .0 .few))
+send-on-requires c κs = (search turn-low, search turn-room, search turn-children)
 
 add-handled : tie.Need-add-handled Inv-loop μ-loop
 add-handled c = search needs
@@ -85,29 +61,23 @@ loop-less c = search needs
 
 loop-again : tie.Need-loop-again Inv-loop μ-loop
 loop-again c =
-    let p = c .before .before .before .before .before .before .before .before .before .before .before .before .before .before .before .before .pre in
-    let a = c .before .before .before .before .before .before .before .before .before .before .before .before .before .before .before .before .args in
-    let l = c .before .before .before .before .before .before .before .before .loop in
-    let t = visiting-turn (a .state) (a .image) (p .0) (l .queue) (l .tail) (l .handled) (l .inv .2) (omega (arith, c .before .before .before .before .before .before .before .before .before .before .before .before .before .before .buckets .ensures)) (getD (l .queue) (l .handled) 0) (c .before .before .before .before .before .message-level .result) (c .before .before .before .before .level-of .result) refl (c .before .before .before .before .before .message-level .ensures) (c .before .before .before .before .level-of .ensures) in (
+    let sent = c .before .before in
+    let told = sent .before .before .before in
+    let test = told .before .before in
+    let first = test .before .before .before .before in
+    let all = first .before .before .before in (
       omega arith,
-      omega (arith, c .before .before .send-on .kept),
-      t .next _ (c .before .before .send-on .result)
-          (c .before .before .send-on .ensures .0) (c .before .before .send-on .ensures .1)
-          (omega (arith, c .before .before .send-on .kept)),
+      omega (arith, sent .send-on .kept),
+      visiting-turn (all .before .before .pre .0) (test .before .loop .inv .2) (all .buckets .ensures)
+          (test .loop-test .taken) (told .message-level .ensures) (sent .before .before .level-of .ensures)
+          (sent .send-on .ensures) (sent .send-on .kept .1 .1 .1 .1 .0),
     )
 
 same-length : tie.Need-same-length Inv-loop μ-loop
 same-length c = search needs
 
 returns : tie.Need-returns Inv-loop μ-loop
-returns c =
-    let p = c .before .before .before .before .before .before .before .before .before .pre in
-    let a = c .before .before .before .before .before .before .before .before .before .args in
-    let l = c .before .loop in
-    let all : l .handled ≡ buckets firstBuckets (a .state) = omega
-    (arith, c .before .before .before .before .before .before .before .buckets .ensures) in
-    ap (λ (n : ℕ). take n (l .queue)) (sym all)
-    ∙ visiting-done (a .state) (a .image) (p .0) (l .queue) (l .tail) (l .handled) (l .inv .2) all
+returns c = search visiting-done
 
 pub visit-order-spec : {M : Type 1} → statement M
 visit-order-spec =
