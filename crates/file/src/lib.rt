@@ -7,9 +7,9 @@ ghost use Prim.Native.Nat.{_+_, _≤_, _<_};
 ghost use lib.ListN.{length};
 ghost use Rattle.address.specs.Limits.{mostBuckets, mostSlots};
 ghost use Rattle.bucket.specs.Region.{Ride, countOf, keyAt, slotOf};
-ghost use Rattle.file.specs.File.Judge.{Known};
-ghost use Rattle.file.specs.File.{fileLength, withRide, figuresFit, stateFits, headerOf, bucketsOf, startOf, regionOf};
-ghost use Rattle.file.specs.File.{bucketSoundIn};
+ghost use Rattle.file.specs.File.Judge.{Known, FiguresOf};
+ghost use Rattle.file.specs.File.{fileLength, figuresFit, stateFits, fixedBytes, rangesFit, noHeader, headerOf};
+ghost use Rattle.file.specs.File.{bucketsOf, startOf, regionOf, bucketSoundIn, withRide};
 
 // A file's header, read and judged; of an unsound one nothing is known.
 pub struct Header {
@@ -22,8 +22,7 @@ pub struct Header {
 
 // The header of a file that has none.
 pub fn no_header() -> Header
-    ensures { λ r. ⌜ r
-        ≡ record { sound = false; state = record { level = 0; pointer = 0 }; capacity = 0; slots = 0; most = 0 } ⌝ }
+    ensures { λ r. ⌜ r ≡ noHeader ⌝ }
 {
     let state = Image {
         level: 0,
@@ -55,7 +54,7 @@ pub fn figures_fit(long: u64, capacity: u64, slots: u64, most: u64) -> bool
 }
 
 // Whether a state is one of a file of at most `most` buckets.
-fn state_fits(state: Image, most: u64) -> bool
+fn state_fits(state: Image, most: u32) -> bool
     requires { ⌜ (state .pointer < 65536) × (most ≤ mostBuckets) ⌝ }
     ensures { λ r. ⌜ r ≡ stateFits state most ⌝ }
 {
@@ -64,7 +63,50 @@ fn state_fits(state: Image, most: u64) -> bool
     }
     let span = address::span(address::FIRST_BUCKETS, state.level);
     let buckets = address::buckets(address::FIRST_BUCKETS, state);
-    (state.pointer < span) & (buckets as u64 <= most)
+    (state.pointer < span) & (buckets <= most)
+}
+
+// Whether the mark stands in a header, and the zeros.
+fn fixed_bytes(file: &[u8]) -> bool
+    requires { ⌜ 16 ≤ length (now file) ⌝ }
+    ensures { λ r. ⌜ r ≡ fixedBytes (now (file .entry)) ⌝ }
+{
+    layout::has_mark(file, 0, b"LF") & layout::is_zero(&file[9..16])
+}
+
+// The figures of a header, as they stand there.
+fn figures(file: &[u8]) -> Header
+    requires { ⌜ 16 ≤ length (now file) ⌝ }
+    ensures { λ r. ⌜ FiguresOf (now (file .entry)) r ⌝ }
+{
+    let state = Image {
+        level: layout::wide(file[2]) as u32,
+        pointer: layout::read2(file, 4) as u32,
+    };
+    Header {
+        sound: true,
+        state,
+        capacity: layout::wide(file[3]) as u32,
+        slots: layout::wide(file[8]) as u32,
+        most: layout::read2(file, 6) as u32,
+    }
+}
+
+// Whether a header's figures are in range, the state too, and the length is theirs.
+fn ranges_fit(long: u64, header: Header) -> bool
+    requires { ⌜ header .state .pointer < 65536 ⌝ }
+    ensures { λ r. ⌜ r ≡ rangesFit long header ⌝ }
+{
+    let fits = figures_fit(
+        long,
+        header.capacity as u64,
+        header.slots as u64,
+        header.most as u64,
+    );
+    if !fits {
+        return false;
+    }
+    state_fits(header.state, header.most)
 }
 
 // Reads a file's header and judges it.
@@ -75,30 +117,14 @@ pub fn header_of(file: &[u8]) -> Header
     if long < 16 {
         return no_header();
     }
-    let capacity = layout::wide(file[3]);
-    let most = layout::read2(file, 6);
-    let slots = layout::wide(file[8]);
-    let fixed = layout::has_mark(file, 0, b"LF") & layout::is_zero(&file[9..16]);
-    if !fixed {
+    if !fixed_bytes(file) {
         return no_header();
     }
-    if !figures_fit(long as u64, capacity, slots, most) {
+    let header = figures(file);
+    if !ranges_fit(long as u64, header) {
         return no_header();
     }
-    let state = Image {
-        level: layout::wide(file[2]) as u32,
-        pointer: layout::read2(file, 4) as u32,
-    };
-    if !state_fits(state, most) {
-        return no_header();
-    }
-    Header {
-        sound: true,
-        state,
-        capacity: capacity as u32,
-        slots: slots as u32,
-        most: most as u32,
-    }
+    header
 }
 
 // Where a region starts.
@@ -139,7 +165,8 @@ pub fn bucket_sound(file: &[u8], header: Header, bucket: u32) -> bool
 
 // How many rides a sound bucket holds.
 pub fn held_in(file: &[u8], header: Header, bucket: u32) -> usize
-    requires { ⌜ Known (now file) header × (bucket < bucketsOf (now file)) × (bucketSoundIn (now file) bucket ≡ true) ⌝ }
+    requires { ⌜ Known (now file) header × (bucket < bucketsOf (now file))
+        × (bucketSoundIn (now file) bucket ≡ true) ⌝ }
     ensures { λ r. ⌜ (r ≡ countOf (regionOf (now (file .entry)) bucket)) × (r ≤ mostSlots) ⌝ }
 {
     let at = start(header.slots, bucket);

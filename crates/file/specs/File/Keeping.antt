@@ -283,7 +283,8 @@ module _ (file : List ℕ) (bytes : Bytes file) (sound : fileSound file ≡ true
       ∙ with-other file ranges (splitting (stateOf file)) old-in (half (splitting (stateOf file)))
       (half-long (splitting (stateOf file))) b l apart
 
-  next-small : (grown firstBuckets (stateOf file) .level ≤ mostLevel) × (grown firstBuckets (stateOf file) .pointer ≤ mostBuckets)
+  next-small : (grown firstBuckets (stateOf file) .level ≤ mostLevel)
+      × (grown firstBuckets (stateOf file) .pointer ≤ mostBuckets)
   next-small = state-small (grown firstBuckets (stateOf file)) (mostOf file) (ranges .figured .few-buckets) next-formed
       (omega (arith, next-buckets))
 

@@ -52,7 +52,8 @@ moves s formed rides all = kept-agree (λ key. eqb (address firstBuckets s key) 
         ∙ sym (ap not (keeps-yes firstBuckets (splitting s) (suc (s .level)) key e)))
         (λ e. keeps-yes firstBuckets (newborn firstBuckets s) (suc (s .level)) key e
         ∙ sym (ap not (keeps-no firstBuckets (splitting s) (suc (s .level)) key (λ h. apart (sym e ∙ h)))))
-        (divided-cases firstBuckets (omega arith) s formed key (eqb-true (address firstBuckets s key) (splitting s) own))
+        (divided-cases firstBuckets (omega arith) s formed key
+        (eqb-true (address firstBuckets s key) (splitting s) own))
 
 -- where the two buckets of a split lie
 module _ (file : List ℕ) (header : Header) (seen : Known file header) (more : bucketsOf file < mostOf file)
@@ -74,7 +75,8 @@ module _ (file : List ℕ) (header : Header) (seen : Known file header) (more : 
 
 -- the state that a split leaves is small
 pub grown-small : (file : List ℕ) (header : Header) → Known file header → bucketsOf file < mostOf file
-    → (grown firstBuckets (header .state) .level ≤ mostLevel) × (grown firstBuckets (header .state) .pointer ≤ mostBuckets)
+    → (grown firstBuckets (header .state) .level ≤ mostLevel)
+    × (grown firstBuckets (header .state) .pointer ≤ mostBuckets)
 unfolding bucketsOf
 grown-small file header seen more = rw (seen .state)
     (state-small (grown firstBuckets (stateOf file)) (mostOf file) (seen .ranges .figured .few-buckets)
@@ -237,7 +239,8 @@ module _ (file : List ℕ) where
       ∷ []
       ) 0
   unfolding split
-  split-reply = go (headerSound file) (leb (mostOf file) (bucketsOf file)) (bucketSoundIn file (splitting (stateOf file)))
+  split-reply = go (headerSound file) (leb (mostOf file) (bucketsOf file))
+      (bucketSoundIn file (splitting (stateOf file)))
       (allZero (regionOf file (newborn firstBuckets (stateOf file))))
     where
       refused : ℕ → ℕ → SplitOutcome
