@@ -6,10 +6,10 @@ ghost use mathlib.Core.Bool.{true, false};
 ghost use Prim.Native.Nat.{_+_, _≤_, _<_};
 ghost use lib.ListN.{length};
 ghost use Rattle.address.specs.Limits.{mostBuckets, mostSlots};
-ghost use Rattle.bucket.specs.Region.{Ride, countOf, keyAt, slotOf};
+ghost use Rattle.bucket.specs.Region.{Ride, slotAt, countOf, keyAt, slotOf};
 ghost use Rattle.file.specs.File.Judge.{Known, FiguresOf};
 ghost use Rattle.file.specs.File.{fileLength, figuresFit, stateFits, fixedBytes, rangesFit, noHeader, headerOf};
-ghost use Rattle.file.specs.File.{bucketsOf, startOf, regionOf, bucketSoundIn, withRide};
+ghost use Rattle.file.specs.File.{mostOf, bucketsOf, startOf, regionOf, bucketSoundIn, withRide};
 
 // A file's header, read and judged; of an unsound one nothing is known.
 pub struct Header {
@@ -135,19 +135,26 @@ pub fn start(slots: u32, bucket: u32) -> usize
     16 + bucket as usize * (8 + 24 * slots as usize)
 }
 
+// A region of a file, as a part of it.
+pub fn region(file: &[u8], header: Header, number: u32) -> &[u8]
+    requires { ⌜ Known (now file) header × (number < mostOf (now file)) ⌝ }
+    ensures { λ r. ⌜ (now r ≡ regionOf (now (file .entry)) number) × (length (now r) ≡ slotAt (header .slots)) ⌝ }
+{
+    let at = start(header.slots, number);
+    let end = at + (8 + 24 * header.slots as usize);
+    &file[at..end]
+}
+
 // Judges a bucket of a file, and finds a key in it.
 pub fn judge_bucket(file: &[u8], header: Header, bucket: u32, key: u64) -> Judged
     requires { ⌜ Known (now file) header × (bucket < bucketsOf (now file)) ⌝ }
     ensures { λ r. ⌜ (r .sound ≡ bucketSoundIn (now (file .entry)) bucket)
         × (r .sound ≡ true → r .place ≡ slotOf (regionOf (now (file .entry)) bucket) key) ⌝ }
 {
-    let slots = header.slots;
-    let at = start(slots, bucket);
-    let end = at + (8 + 24 * slots as usize);
     let level = address::level_of(address::FIRST_BUCKETS, header.state, bucket);
     bucket::judge(
-        &file[at..end],
-        slots,
+        region(file, header, bucket),
+        header.slots,
         address::FIRST_BUCKETS,
         bucket,
         level,
@@ -179,10 +186,7 @@ pub fn key_in(file: &[u8], header: Header, bucket: u32, slot: usize) -> u64
         × (slot < countOf (regionOf (now file) bucket)) ⌝ }
     ensures { λ r. ⌜ r ≡ keyAt (regionOf (now (file .entry)) bucket) slot ⌝ }
 {
-    let slots = header.slots;
-    let at = start(slots, bucket);
-    let end = at + (8 + 24 * slots as usize);
-    bucket::key_at(&file[at..end], slot)
+    bucket::key_at(region(file, header, bucket), slot)
 }
 
 // Places a ride in the first free slot of a sound bucket, and answers the count then held.

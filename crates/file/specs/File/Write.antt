@@ -1,8 +1,8 @@
 -- What a write leaves: a region written is read there, every other region and the header are as they were; a state
 -- written is read there, and every region is as it was.
-use Prim.Native.Nat.{ℕ, zero, suc, _+_, _-_, _≤_, _<_, min}
+use Prim.Native.Nat.{ℕ, zero, suc, _+_, _*_, _-_, _≤_, _<_, min}
 use mathlib.Core.Path.{_≡_, refl, sym, ap, ap₂, _∙_}
-use mathlib.Core.Bool.{Bool, true, _&&_}
+use mathlib.Core.Bool.{true, _&&_}
 use mathlib.Core.List.{List, [], _∷_, _++_, append-nil}
 use mathlib.Core.Logic.{by-cases}
 use native.Mathlib.Decide.{decLt}
@@ -28,7 +28,7 @@ use Rattle.file.specs.File.{capacityOf, mostOf, slotsOf, stateOf, figure
 use Rattle.file.specs.File.{figuresOf, rangesFit, headerSound, startOf, regionOf, bucketSoundIn, withRegion}
 use Rattle.file.specs.File.{fixedBytes, withRide, withState}
 use Rattle.file.specs.File.Judge.{Ranges, Known, header-parts, header-back}
-use Rattle.file.specs.File.Region.{region-is, region-fits, region-apart, length-region}
+use Rattle.file.specs.File.Region.{region-is, region-fits, region-apart, length-region, known-cut, known-long}
 
 -- two files that agree in the first 16 bytes and in length have the same header
 module _ (file other : List ℕ) (long : length other ≡ length file)
@@ -333,3 +333,18 @@ ride-placed file header seen bytes a exists sound ride whole count counted room 
 
     number : count ≡ length (ridesOf (regionOf file a))
     number = counted ∙ sym (bucket .count)
+
+-- placed in the part that is lent for it
+pub ride-lent : (file : List ℕ) (header : Header) → Known file header → Bytes file → (a : ℕ) → a < bucketsOf file
+    → bucketSoundIn file a ≡ true
+    → (ride : Ride) → Whole ride → (count : ℕ) → count ≡ countOf (regionOf file a) → count < header .slots
+    → {at : ℕ} → at ≡ startOf (header .slots) a → {after : List ℕ}
+    → length after ≡ length (take (at + (8 + 24 * header .slots) - at) (drop at file))
+    → after ≡ edit 4 (leBytes 2 (count + 1))
+    (edit (slotAt count) (slotBytes ride) (take (at + (8 + 24 * header .slots) - at) (drop at file)))
+    → take at file ++ (after ++ drop (at + (8 + 24 * header .slots) - at) (drop at file)) ≡ withRide file a ride
+ride-lent file header seen bytes a exists sound ride whole count counted room {at} ea {after} kept written =
+    with-lent file after a at (at + (8 + 24 * header .slots) - at) (ea ∙ ap (λ (S : ℕ). startOf S a) (seen .slots))
+    (omega (arith, kept, known-long file header seen a at ea (omega (arith, seen .ranges .few))))
+    ∙ ride-placed file header seen bytes a exists sound ride whole count counted room _ after
+    (known-cut file header seen a at ea) written
