@@ -6,6 +6,7 @@ ghost use mathlib.Core.Bool.{true, false};
 ghost use Prim.Native.Nat.{_+_, _≤_, _<_};
 ghost use lib.ListN.{length};
 ghost use Rattle.address.specs.Limits.{mostBuckets, mostSlots};
+ghost use Rattle.layout.specs.Bytes.{allZero};
 ghost use Rattle.bucket.specs.Region.{Ride, slotAt, countOf, keyAt, slotOf};
 ghost use Rattle.file.specs.File.Judge.{Known, FiguresOf};
 ghost use Rattle.file.specs.File.{fileLength, figuresFit, stateFits, fixedBytes, rangesFit, noHeader, headerOf};
@@ -143,6 +144,14 @@ pub fn region(file: &[u8], header: Header, number: u32) -> &[u8]
     let at = start(header.slots, number);
     let end = at + (8 + 24 * header.slots as usize);
     &file[at..end]
+}
+
+// Whether a region of a file is all zero.
+pub fn region_zero(file: &[u8], header: Header, number: u32) -> bool
+    requires { ⌜ Known (now file) header × (number < mostOf (now file)) ⌝ }
+    ensures { λ r. ⌜ r ≡ allZero (regionOf (now (file .entry)) number) ⌝ }
+{
+    layout::is_zero(region(file, header, number))
 }
 
 // Judges a bucket of a file, and finds a key in it.

@@ -22,7 +22,7 @@ fn region_sound(file: &[u8], header: Header, region: u32) -> bool
     if region < address::buckets(address::FIRST_BUCKETS, header.state) {
         return file::bucket_sound(file, header, region);
     }
-    layout::is_zero(file::region(file, header, region))
+    file::region_zero(file, header, region)
 }
 
 // The lowest unsound region, and the number of regions if there is none.

@@ -297,6 +297,19 @@ known file header e h =
       };
     }
 
+-- the same from the test that the flag has passed, or not
+pub known-passed : (file : List ℕ) (header : Header) → header ≡ headerOf file → not (header .sound) ≡ false
+    → Known file header
+known-passed file header e h = known file header e (not-false (header .sound) h)
+
+pub room-passed : (file : List ℕ) (header : Header) → header ≡ headerOf file → not (header .sound) ≡ false
+    → ImageRoom firstBuckets (header .state)
+room-passed file header e h = known-passed file header e h .room
+
 pub unknown : (file : List ℕ) (header : Header) → header ≡ headerOf file → header .sound ≡ false
     → headerSound file ≡ false
 unknown file header e h = sym (header-flag file) ∙ ap (λ (x : Header). x .sound) (sym e) ∙ h
+
+pub unknown-failed : (file : List ℕ) (header : Header) → header ≡ headerOf file → not (header .sound) ≡ true
+    → headerSound file ≡ false
+unknown-failed file header e h = unknown file header e (not-true (header .sound) h)

@@ -1,6 +1,6 @@
 -- What insert and split keep: a fresh ride in its own bucket leaves a sound file sound with just that ride more,
 -- and a split leaves a sound file sound, with the rides of one bucket in two. Every region not written stays.
-use Prim.Native.Nat.{ℕ, suc, _+_, _≤_, _<_}
+use Prim.Native.Nat.{ℕ, suc, _≤_, _<_}
 use mathlib.Core.Path.{_≡_, sym, ap, ap₂, _∙_}
 use mathlib.Core.Bool.{true, cond, _&&_}
 use mathlib.Core.List.{List, [], _∷_, _++_}

@@ -128,10 +128,8 @@ module _ (file : List ℕ) (header : Header) (seen : Known file header) (a : ℕ
   pub region-below : a < n → {sound : Bool} → sound ≡ bucketSoundIn file a → sound ≡ regionSound file a
   region-below h e = e ∙ sym (region-bucket file a (known-below h))
 
-  pub region-behind : n ≤ a → {region : List ℕ} → region ≡ regionOf file a → {clean : Bool} → clean ≡ allZero region
-      → clean ≡ regionSound file a
-  region-behind h er e = e ∙ ap allZero er ∙ sym
-      (region-past file a (omega (arith, buckets-known file header seen n en)))
+  pub region-behind : n ≤ a → {clean : Bool} → clean ≡ allZero (regionOf file a) → clean ≡ regionSound file a
+  region-behind h e = e ∙ sym (region-past file a (omega (arith, buckets-known file header seen n en)))
 
 -- ---- the lowest unsound region
 

@@ -1,7 +1,7 @@
 -- What a write leaves: a region written is read there, every other region and the header are as they were; a state
 -- written is read there, and every region is as it was.
 use Prim.Native.Nat.{ℕ, zero, suc, _+_, _*_, _-_, _≤_, _<_, min}
-use mathlib.Core.Path.{_≡_, refl, sym, ap, ap₂, _∙_}
+use mathlib.Core.Path.{_≡_, sym, ap, ap₂, _∙_}
 use mathlib.Core.Bool.{true, _&&_}
 use mathlib.Core.List.{List, [], _∷_, _++_, append-nil}
 use mathlib.Core.Logic.{by-cases}
@@ -144,10 +144,11 @@ with-lent file region a at n ea en = lent at n region file en ∙ ap (λ (p : �
 
 -- ---- a state, written
 
-pub state-written : (file : List ℕ) (state : Image)
-    → edit 4 (leBytes 2 (state .pointer)) (edit 2 (state .level ∷ []) file) ≡ withState file state
+pub state-written : (file : List ℕ) (state : Image) {one two : List ℕ} → one ≡ edit 2 (state .level ∷ []) file
+    → two ≡ edit 4 (leBytes 2 (state .pointer)) one
+    → two ≡ withState file state
 unfolding withState
-state-written file state = refl
+state-written file state e f = f ∙ ap (edit 4 (leBytes 2 (state .pointer))) e
 
 -- level and pointer are read back, and nothing else of the file is touched
 module _ (file : List ℕ) (state : Image) (headed : 16 ≤ length file) (low : state .pointer < 65536) where

@@ -13,11 +13,8 @@ bucket-sound-requires c κs = (search needs, search known-below)
 returns : tie.Need-returns
 returns c = search region-below
 
-region-requires : tie.Need-region-requires
-region-requires c κs = search needs
-
-is-zero-requires : tie.Need-is-zero-requires
-is-zero-requires c κs = search needs
+region-zero-requires : tie.Need-region-zero-requires
+region-zero-requires c κs = search needs
 
 returns-2 : tie.Need-returns-2
 returns-2 c = search region-behind
@@ -29,6 +26,5 @@ region-sound-spec =
     buckets-requires
     bucket-sound-requires
     returns
-    region-requires
-    is-zero-requires
+    region-zero-requires
     returns-2)
