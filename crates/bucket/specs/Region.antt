@@ -9,6 +9,7 @@ pub mod Every
 pub mod Held
 pub mod Single
 pub mod Sound
+pub mod Told
 pub mod Write
 use Prim.Native.Nat.{ℕ, zero, suc, _+_, _*_, _-_, _^_, _<_}
 use mathlib.Core.Path.{_≡_}

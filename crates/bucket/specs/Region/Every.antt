@@ -8,7 +8,7 @@ use native.Mathlib.Omega.{arith}
 use Rattle.address.specs.Compare.{same}
 use Rattle.address.specs.Rules.Route.{Below}
 use Rattle.address.specs.Rules.Scan.{times, times-none, times-there}
-use Rattle.layout.specs.Bytes.Tests.{and-left, and-right, and-both}
+use Rattle.layout.specs.Bytes.Tests.{and-left, and-right}
 use Rattle.bucket.specs.Region.{every}
 
 pub every-none : (test : ℕ → Bool) → every test [] ≡ true
