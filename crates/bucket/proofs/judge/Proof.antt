@@ -34,7 +34,7 @@ add-rest : tie.Need-add-rest
 add-rest c = search needs
 
 sub-is-zero : tie.Need-sub-is-zero
-sub-is-zero c = search count-within
+sub-is-zero c = search (count-within, needs)
 
 part-is-zero-start : tie.Need-part-is-zero-start
 part-is-zero-start c = sub-is-zero c
