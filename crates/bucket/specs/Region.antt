@@ -134,9 +134,9 @@ pub kept : (ℕ → Bool) → List Ride → List Ride
 kept test [] = []
 kept test (ride ∷ rides) = cond (test (ride .key)) (ride ∷ kept test rides) (kept test rides)
 
--- Some bytes after the region of S slots at `old` was divided between it and the one at `new`, both then of level j: the
--- rides whose keys pass the test stay, the others are in the new region, both groups in their order and packed; freed
--- slots are zero.
+-- Some bytes after the region of S slots at `old` was divided between it and the one at `new`, both then of level j:
+-- the rides whose keys pass the test stay, the others are in the new region, both groups in their order and packed;
+-- freed slots are zero.
 abbrev pub halved : (ℕ → Bool) → ℕ → ℕ → ℕ → ℕ → List ℕ → List ℕ
 halved own S j old new bytes =
     let rides = ridesOf (part old (slotAt S) bytes) in
