@@ -543,18 +543,15 @@ module _ (entry : List ℕ) (S old new : ℕ)
   pub halves-read : Halves entry S old new n
   halves-read = subst (Halves entry S old new) (sym (divide-count entry S old n is)) halves
 
+  pub some-fit : {m : ℕ} → m ≤ n → m ≤ S
+  some-fit fewer = omega (arith, halves-read .few)
+
   module _ {own : ℕ → Bool} {stay : ℕ} {now : List ℕ} (so : Parted own entry S old new n n stay now) where
     pub old-fits : old + slotAt S ≤ length now
     old-fits = omega (arith, so .long, halves .apart, halves .fits)
 
-    pub stay-few : stay ≤ S
-    stay-few = omega (arith, so .short, halves-read .few)
-
     pub new-fits : {size : ℕ} → size ≡ length now → new + slotAt S ≤ size
     new-fits e = omega (arith, so .long, halves .fits)
-
-    pub moved-few : n - stay ≤ S
-    moved-few = omega (arith, halves-read .few)
 
     pub halved-done : (j : ℕ) {one exit : List ℕ}
         → one ≡ edit (old + slotAt stay) (replicate (24 * (S - stay)) 0) (edit old (headBytes j stay) now)
