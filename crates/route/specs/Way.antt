@@ -6,7 +6,7 @@ pub mod Open
 pub mod Own
 pub mod Route
 use Prim.Native.Nat.{ℕ}
-use mathlib.Core.Bool.{Bool, true, cond, not, _&&_}
+use mathlib.Core.Bool.{Bool, cond, not}
 use mathlib.Core.List.{List, [], _∷_, _++_}
 use lib.Dec.{leb, ltb, eqb}
 use lib.ListN.{take}
@@ -15,16 +15,15 @@ use Rattle.address.specs.declared.Image.{Image}
 use Rattle.address.specs.Rules.{buckets, address, level, adjusted, route}
 use Rattle.layout.specs.Replies.{Refusal, refuse}
 use Rattle.bucket.specs.Region.{countOf, slotOf}
-use Rattle.client.specs.Table.{imageOf, recordSound, tableRefusals}
+use Rattle.client.specs.Table.{imageOf, callerRefusals}
 use Rattle.file.specs.File.{slotsOf, stateOf, bucketsOf, headerSound, regionOf}
 use Rattle.route.specs.declared.Walk.{Walk}
 
 -- 2, 3, 4, 5, 6, before any route.
 pub early : List ℕ → List ℕ → ℕ → List Refusal
 early file table client =
-    tableRefusals table client
-    ++ (refuse 4 (not (recordSound table client))
-    ∷ refuse 5 (not (headerSound file))
+    callerRefusals table client
+    ++ (refuse 5 (not (headerSound file))
     ∷ refuse 6 (ltb (bucketsOf file) (buckets firstBuckets (imageOf table client)))
     ∷ [])
 

@@ -131,28 +131,25 @@ fn not_opened(reply: u8) -> Opened
     }
 }
 
-// Judges table, client, record, header and image in the replies' order: 2, 3, 4, 5, 6, or 0.
+// Judges caller, header and image in the replies' order: 2 to 4, 5, 6, or 0.
 pub fn open(file: &[u8], table: &[u8], client: u64) -> Opened
     ensures { λ r. ⌜ (r .reply ≡ reply (early (now (file .entry)) (now (table .entry)) client) 0)
         × (r .reply ≡ 0 → Opening (now (file .entry)) (now (table .entry)) client (r .header) (r .image)) ⌝ }
 {
-    let refused = client::table_refusal(table, client);
+    let caller = client::caller_of(table, client);
+    let refused = caller.reply;
     if refused != 0 {
         return not_opened(refused);
-    }
-    let record = client::client_of(table, client);
-    if !record.sound {
-        return not_opened(4);
     }
     let header = file::header_of(file);
     if !header.sound {
         return not_opened(5);
     }
-    let image = record.image;
+    let image = caller.image;
     let state = header.state;
-    if address::buckets(address::FIRST_BUCKETS, state)
-        < address::buckets(address::FIRST_BUCKETS, image)
-    {
+    let ahead = address::buckets(address::FIRST_BUCKETS, state)
+        < address::buckets(address::FIRST_BUCKETS, image);
+    if ahead {
         return not_opened(6);
     }
     Opened {

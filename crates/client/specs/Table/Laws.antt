@@ -16,7 +16,7 @@ use Rattle.layout.specs.Bytes.{byteAt, leAt, leBytes, marked, edit}
 use Rattle.layout.specs.Bytes.Tests.{and-left, and-right}
 use Rattle.layout.specs.Bytes.Edit.{edit-next}
 use Rattle.layout.specs.Bytes.Numbers.{leBytes-two}
-use Rattle.layout.specs.Replies.{Numbers, reply, reply-none, reply-here, reply-past, reply-else}
+use Rattle.layout.specs.Replies.{Numbers, reply, reply-none, reply-here, reply-past}
 use Rattle.client.specs.Table.{clientMark, lengthSound, exists, imageOf, recordFormed, imageFormed, recordSound}
 use Rattle.client.specs.Table.{tableRefusals, imageBytes, withImage, Joined, join}
 
@@ -40,22 +40,11 @@ module _ (table : List ℕ) (client : ℕ) where
   unfolding tableRefusals
   table-numbers P two three = (two, (three, tt))
 
-  decided : (done : ℕ) → reply (tableRefusals table client) done
-      ≡ cond (eqb (reply (tableRefusals table client) 0) 0) done (reply (tableRefusals table client) 0)
-  decided = reply-else (tableRefusals table client)
-      (table-numbers (λ n. n ≡ 0 → ⊥) (λ e. omega (arith, e)) (λ e. omega (arith, e)))
+  pub table-numbered : Numbers (λ n. n ≡ 0 → ⊥) (tableRefusals table client)
+  table-numbered = table-numbers (λ n. n ≡ 0 → ⊥) (λ e. omega (arith, e)) (λ e. omega (arith, e))
 
-  -- a table that is refused is refused whatever comes after, and one that is not passes it on
-  pub table-refused : (r : ℕ) → reply (tableRefusals table client) 0 ≡ r → (r ≡ 0 → ⊥) → (done : ℕ)
-      → reply (tableRefusals table client) done ≡ r
-  table-refused r e some done = decided done ∙ ap (λ (n : ℕ). cond (eqb n 0) done n) e
-      ∙ ap (λ (b : Bool). cond b done r) (ne-eqb r 0 some)
-
-  pub table-passes : reply (tableRefusals table client) 0 ≡ 0 → (done : ℕ)
-      → reply (tableRefusals table client) done ≡ done
-  table-passes e done = decided done ∙ ap (λ (n : ℕ). cond (eqb n 0) done n) e
-
-  pub length-flag : (flag : Bool) → flag ≡ (ltb 0 (length table) && leb (length table) mostTable && eqb (length table % 8) 0)
+  pub length-flag : (flag : Bool)
+      → flag ≡ (ltb 0 (length table) && leb (length table) mostTable && eqb (length table % 8) 0)
       → flag ≡ lengthSound table
   unfolding lengthSound
   length-flag flag e = e

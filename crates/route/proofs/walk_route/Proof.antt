@@ -97,10 +97,12 @@ returns c =
     (c .before .before .before .before .before .note .ensures .1)
     (c .before .before .before .before .judge-bucket .result .sound)
     (c .before .before .before .before .judge-bucket .ensures .0) (c .before .before .before .level-of .result)
-    (c .before .before .before .level-of .ensures ∙ ap (λ (s : Image). level firstBuckets s (l .bucket)) (d .pre .0 .state))
+    (c .before .before .before .level-of .ensures
+    ∙ ap (λ (s : Image). level firstBuckets s (l .bucket)) (d .pre .0 .state))
     (sym (c .before .before .fate-at .ensures) ∙ c .enum-told .given .1) in (
       subst
-          (λ (way : List ℕ). Walked (a .file .now) (a .key) way (c .before .before .before .before .before .note .result)
+          (λ (way : List ℕ). Walked (a .file .now) (a .key) way
+          (c .before .before .before .before .before .note .result)
           (l .bucket) true) (way-is (a .file .now) (a .image) (a .key) (first .result) (first .ensures)) (m .1),
       λ e.
           c .before .before .before .before .judge-bucket .ensures .1
@@ -148,10 +150,12 @@ returns-2 c =
     (c .before .before .before .before .before .note .ensures .1)
     (c .before .before .before .before .judge-bucket .result .sound)
     (c .before .before .before .before .judge-bucket .ensures .0) (c .before .before .before .level-of .result)
-    (c .before .before .before .level-of .ensures ∙ ap (λ (s : Image). level firstBuckets s (l .bucket)) (d .pre .0 .state))
+    (c .before .before .before .level-of .ensures
+    ∙ ap (λ (s : Image). level firstBuckets s (l .bucket)) (d .pre .0 .state))
     (sym (c .before .before .fate-at .ensures) ∙ c .enum-told2 .given .1) in (
       subst
-          (λ (way : List ℕ). Walked (a .file .now) (a .key) way (c .before .before .before .before .before .note .result)
+          (λ (way : List ℕ). Walked (a .file .now) (a .key) way
+          (c .before .before .before .before .before .note .result)
           (l .bucket) false) (way-is (a .file .now) (a .image) (a .key) (first .result) (first .ensures)) m,
       λ e. absurd
           (false≢true e),
