@@ -36,12 +36,12 @@ module _ (file table : List ℕ) (client : ℕ) where
       ∙ ap (cond (ltb (bucketsOf file) (buckets firstBuckets (imageOf table client))) 6) (reply-none 0)))
 
   -- their numbers are 2 to 6
-  early-numbers : (P : ℕ → Type 0) → P 2 → P 3 → P 4 → P 5 → P 6 → Numbers P (early file table client)
+  pub early-numbers : (P : ℕ → Type 0) → P 2 → P 3 → P 4 → P 5 → P 6 → Numbers P (early file table client)
   unfolding early
   early-numbers P two three four five six = numbers-append P (callerRefusals table client) _
       (caller-numbers table client P two three four) (five, (six, tt))
 
-  early-numbered : Numbers (λ n. n ≡ 0 → ⊥) (early file table client)
+  pub early-numbered : Numbers (λ n. n ≡ 0 → ⊥) (early file table client)
   early-numbered = early-numbers (λ n. n ≡ 0 → ⊥) (λ e. omega (arith, e)) (λ e. omega (arith, e))
       (λ e. omega (arith, e))
       (λ e. omega (arith, e)) (λ e. omega (arith, e))
