@@ -1,5 +1,6 @@
 -- `client::caller_of` judges in the replies' order; each way out is a law of its own.
-use Rattle.client.specs.Table.Caller.{caller-table, caller-fits, caller-record, caller-fine}
+use Rattle.client.specs.Table.Laws.{table-fits}
+use Rattle.client.specs.Table.Caller.{caller-table, caller-record, caller-fine}
 use borrow.Author.Needs.{needs}
 use Rattle.client.proofs.caller_of.Statement.{statement}
 use Rattle.client.proofs.caller_of.Tie as tie
@@ -14,7 +15,7 @@ returns : tie.Need-returns
 returns c = search caller-table
 
 client-of-requires : tie.Need-client-of-requires
-client-of-requires c κs = search caller-fits
+client-of-requires c κs = search table-fits
 
 no-caller-requires-2 : tie.Need-no-caller-requires-2
 no-caller-requires-2 c κs = search needs

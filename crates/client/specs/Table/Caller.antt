@@ -13,7 +13,7 @@ use Rattle.address.specs.Rules.{Formed}
 use Rattle.address.specs.Rules.Hash.{span-is, span-mono}
 use Rattle.layout.specs.Replies.{Numbers, reply, reply-none, reply-is, reply-append, numbers-append}
 use Rattle.client.specs.Table.{imageOf, recordSound, tableRefusals, callerRefusals}
-use Rattle.client.specs.Table.Laws.{table-numbers, table-numbered, record-fits, record-image}
+use Rattle.client.specs.Table.Laws.{table-numbers, table-numbered, table-fits, record-image}
 use Rattle.client.specs.Table.Refusals.{Passes, passes-append, passes-split, passes-on, passes-back, refused-on}
 
 -- what is known of a caller that is not refused
@@ -71,9 +71,6 @@ module _ (table : List ℕ) (client : ℕ) where
       calling = λ e. absurd (some (sym ex ∙ e));
     }
 
-    pub caller-fits : r ≡ 0 → 8 * client + 8 ≤ length table
-    caller-fits none = record-fits table client (sym er ∙ none)
-
     module _ {sound : Bool} (none : r ≡ 0) (es : sound ≡ recordSound table client) where
       judged : {b : Bool} → not sound ≡ b → reply (callerRefusals table client) 0 ≡ cond b 4 0
       judged h = caller-reply
@@ -96,7 +93,7 @@ module _ (table : List ℕ) (client : ℕ) where
 
           known : Calling table client (imageOf table client)
           known = record {
-            there = caller-fits none;
+            there = table-fits table client er none;
             is = refl;
             low = low;
             formed = formed;

@@ -58,6 +58,9 @@ module _ (table : List ℕ) (client : ℕ) where
       go true e = by-cases (decLt client (length table / 8)) (λ l. omega arith)
           (λ l. absurd (omega (arith, refused-client e (omega arith))))
 
+  pub table-fits : {r : ℕ} → r ≡ reply (tableRefusals table client) 0 → r ≡ 0 → 8 * client + 8 ≤ length table
+  table-fits er none = record-fits (sym er ∙ none)
+
   pub record-judged : (mark : Bool) → mark ≡ marked table (8 * client) clientMark
       → (mark && eqb (byteAt table (8 * client + 3)) 0 && eqb (byteAt table (8 * client + 6)) 0
       && eqb (byteAt table (8 * client + 7)) 0) ≡ recordFormed table client
@@ -100,11 +103,13 @@ record-image table client h =
 
 -- an image is written as its mark and its figures
 pub image-written : (table : List ℕ) (client : ℕ) (image : Image) → 8 * client + 8 ≤ length table
-    → edit (8 * client + 2) (image .level ∷ 0 ∷ image .pointer % 256 ∷ image .pointer / 256 % 256 ∷ 0 ∷ 0 ∷ [])
-    (edit (8 * client) clientMark table)
-    ≡ withImage table client image
+    → {one two : List ℕ} → one ≡ edit (8 * client) clientMark table
+    → two ≡ edit (8 * client + 2)
+    (image .level ∷ 0 ∷ image .pointer % 256 ∷ image .pointer / 256 % 256 ∷ 0 ∷ 0 ∷ []) one
+    → two ≡ withImage table client image
 unfolding withImage imageBytes
-image-written table client image fits = edit-next (8 * client) clientMark _ table (omega arith)
+image-written table client image fits e1 e2 = e2 ∙ ap (edit (8 * client + 2) _) e1
+    ∙ edit-next (8 * client) clientMark _ table (omega arith)
     ∙ ap (λ (l : List ℕ). edit (8 * client) l table) bytes
   where
     bytes : clientMark ++ (image .level ∷ 0 ∷ image .pointer % 256 ∷ image .pointer / 256 % 256 ∷ 0 ∷ 0 ∷ [])
