@@ -1,10 +1,12 @@
 // The calls on a whole file but the split: create, check and view.
 use file::Header;
 ghost use mathlib.Core.Path.{_≡_};
+ghost use mathlib.Core.Bool.{true};
 ghost use Prim.Native.Nat.{_≤_, _<_};
 ghost use lib.ListN.{length, set};
 ghost use Rattle.layout.specs.Bytes.{edit, leBytes};
-ghost use Rattle.file.specs.File.{Checked, Created, fileMark, regionSound, lowestUnsound, check, view, create};
+ghost use Rattle.file.specs.File.{Checked, Created, fileMark, bucketsOf, bucketSoundIn, regionSound, lowestUnsound};
+ghost use Rattle.file.specs.File.{check, view, create};
 ghost use Rattle.file.specs.File.Judge.{Known};
 
 // A check's reply, and the lowest unsound region with 7.
@@ -65,6 +67,18 @@ pub fn check(file: &[u8]) -> CheckAnswer
     }
 }
 
+// The used slots of a sound bucket, as a part of the file.
+fn used_slots(file: &[u8], header: Header, bucket: u32) -> &[u8]
+    requires { ⌜ Known (now file) header × (bucket < bucketsOf (now file))
+        × (bucketSoundIn (now file) bucket ≡ true) ⌝ }
+    ensures { λ r. ⌜ now r ≡ view (now (file .entry)) bucket ⌝ }
+{
+    let at = file::start(header.slots, bucket);
+    let from = at + 8;
+    let to = from + 24 * layout::read2(file, at + 4) as usize;
+    &file[from..to]
+}
+
 // The used slots of a bucket, as a part of the file; no byte of it if the header is unsound, the number is
 // too high or the bucket is unsound.
 pub fn view(file: &[u8], bucket: u64) -> &[u8]
@@ -82,11 +96,7 @@ pub fn view(file: &[u8], bucket: u64) -> &[u8]
     if !file::bucket_sound(file, header, number) {
         return &file[0..0];
     }
-    let slots = header.slots;
-    let at = file::start(slots, number);
-    let from = at + 8;
-    let to = from + 24 * layout::read2(file, at + 4) as usize;
-    &file[from..to]
+    used_slots(file, header, number)
 }
 
 // Writes the figures of a new file's header over zeros.

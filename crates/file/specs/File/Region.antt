@@ -154,7 +154,8 @@ module _ (file : List ℕ) where
       below = omega (arith, seen .most)
 
       pub lower-here : not sound ≡ true → k ≡ lowestUnsound file
-      lower-here bad = sym (first-here (λ a. not (regionSound file a)) (mostOf file) k below (ap not (sym es) ∙ bad)) ∙ so
+      lower-here bad = sym (first-here (λ a. not (regionSound file a)) (mostOf file) k below (ap not (sym es) ∙ bad))
+          ∙ so
 
       pub lower-more : not sound ≡ false → Lower (k + 1)
       lower-more good = sym (first-later (λ a. not (regionSound file a)) (mostOf file) k below (ap not (sym es) ∙ good))
@@ -214,6 +215,25 @@ pub view-unsound : (file : List ℕ) (a : ℕ) → headerSound file ≡ true →
 unfolding view
 view-unsound file a h l u = rw (h, lt-ltb a (bucketsOf file) l, u)
 
+-- the same of a header that was read, and of a number and a bucket judged by it
+module _ (file : List ℕ) (a : ℕ) {header : Header} (read : header ≡ headerOf file) where
+  pub view-headless : not (header .sound) ≡ true → [] ≡ view file a
+  view-headless h = view-header file a (unknown-failed file header read h)
+
+  module _ (passed : not (header .sound) ≡ false) {n : ℕ} (en : n ≡ buckets firstBuckets (header .state)) where
+    good : Known file header
+    good = known-passed file header read passed
+
+    pub view-past : n ≤ a → [] ≡ view file a
+    view-past h = view-high file a (good .sound) (omega (arith, buckets-known file header good n en))
+
+    module _ (low : a < n) where
+      pub view-there : a < bucketsOf file
+      view-there = known-below file header good a en low
+
+      pub view-bad : {sound : Bool} → sound ≡ bucketSoundIn file a → not sound ≡ true → [] ≡ view file a
+      view-bad {sound} es h = view-unsound file a (good .sound) view-there (sym es ∙ not-true sound h)
+
 -- a sound bucket's count is within its slots
 pub sound-few : (file : List ℕ) (a : ℕ) → bucketSoundIn file a ≡ true → countOf (regionOf file a) ≤ slotsOf file
 unfolding bucketSoundIn
@@ -228,6 +248,12 @@ pub known-slot : (file : List ℕ) (header : Header) → Known file header → (
     → k < countOf (regionOf file a)
     → k < header .slots
 known-slot file header seen a k sound used = omega (arith, sound-few file a sound, seen .slots)
+
+-- a bucket's count lies in the file
+pub count-fits : (file : List ℕ) (header : Header) → Known file header → (a at : ℕ) → at ≡ startOf (header .slots) a
+    → a < bucketsOf file → at + 4 + 2 ≤ length file
+count-fits file header seen a at ea h = omega
+    (arith, known-fits file header seen a at ea (known-there file header seen h))
 
 -- the count read at a region's place is the region's
 pub known-count : (file : List ℕ) (header : Header) → Known file header → (a at : ℕ) → at ≡ startOf (header .slots) a
