@@ -249,12 +249,6 @@ pub known-slot : (file : List ℕ) (header : Header) → Known file header → (
     → k < header .slots
 known-slot file header seen a k sound used = omega (arith, sound-few file a sound, seen .slots)
 
--- a bucket's count lies in the file
-pub count-fits : (file : List ℕ) (header : Header) → Known file header → (a at : ℕ) → at ≡ startOf (header .slots) a
-    → a < bucketsOf file → at + 4 + 2 ≤ length file
-count-fits file header seen a at ea h = omega
-    (arith, known-fits file header seen a at ea (known-there file header seen h))
-
 -- the count read at a region's place is the region's
 pub known-count : (file : List ℕ) (header : Header) → Known file header → (a at : ℕ) → at ≡ startOf (header .slots) a
     → (n : ℕ) → n ≡ leAt 2 file (at + 4)

@@ -38,7 +38,14 @@ same-length : tie.Need-same-length
 same-length c = search needs
 
 returns : tie.Need-returns
-returns c = search created-written
+returns c =
+    let renewed = c .before .before in
+    let headed = renewed .before .before .before .before in
+    let cleared = headed .before .before .before .before in
+    let begun = cleared .before .before .before in
+    let a = begun .args in
+    created-written (a .capacity) (a .slots) (a .most) (a .file .now) (begun .pre) (cleared .clear .ensures)
+    (headed .put-figures .ensures) (renewed .renew .ensures)
 
 pub put-file-spec : {M : Type 1} → statement M
 put-file-spec =

@@ -1,5 +1,6 @@
 -- `upkeep::used_slots` reads a sound bucket's count and cuts that many slots out of the file: the view.
-use Rattle.file.specs.File.Region.{count-fits, view-fits, view-used}
+use native.Mathlib.Omega.{arith}
+use Rattle.file.specs.File.Region.{known-fits, known-there, view-fits, view-used}
 use borrow.Author.Needs.{needs}
 use Rattle.upkeep.proofs.used_slots.Statement.{statement}
 use Rattle.upkeep.proofs.used_slots.Tie as tie
@@ -14,7 +15,14 @@ add-read2 : tie.Need-add-read2
 add-read2 c = search needs
 
 read2-requires : tie.Need-read2-requires
-read2-requires c κs = search count-fits
+read2-requires c κs =
+    let begun = c .before .before in
+    let a = begun .args in
+    let there = known-there (a .file .now) (a .header) (begun .pre .0) (begun .pre .1) in
+    omega (
+      arith,
+      known-fits (a .file .now) (a .header) (begun .pre .0) (a .bucket) (c .start .result) (c .start .ensures .0) there,
+    )
 
 mul-to : tie.Need-mul-to
 mul-to c = search needs
