@@ -1,11 +1,14 @@
 // The calls on a whole file but the split: create, check and view.
 use file::Header;
 ghost use mathlib.Core.Path.{_≡_};
+ghost use mathlib.Core.Bool.{true};
 ghost use Prim.Native.Nat.{_≤_, _<_};
-ghost use lib.ListN.{length, set};
-ghost use Rattle.layout.specs.Bytes.{edit, leBytes};
-ghost use Rattle.file.specs.File.{Checked, Created, fileMark, regionSound, lowestUnsound, check, view, create};
-ghost use Rattle.file.specs.File.Judge.{Known};
+ghost use lib.ListN.{length};
+ghost use Rattle.address.specs.Rules.{«at»};
+ghost use Rattle.layout.specs.Bytes.{edit};
+ghost use Rattle.file.specs.File.{Checked, Created, bucketsOf, bucketSoundIn, regionSound, lowestUnsound, check, view};
+ghost use Rattle.file.specs.File.{headerBytes, created, create};
+ghost use Rattle.file.specs.File.Judge.{Known, Figures};
 
 // A check's reply, and the lowest unsound region with 7.
 #[repr(C)]
@@ -65,6 +68,18 @@ pub fn check(file: &[u8]) -> CheckAnswer
     }
 }
 
+// The used slots of a sound bucket, as a part of the file.
+fn used_slots(file: &[u8], header: Header, bucket: u32) -> &[u8]
+    requires { ⌜ Known (now file) header × (bucket < bucketsOf (now file))
+        × (bucketSoundIn (now file) bucket ≡ true) ⌝ }
+    ensures { λ r. ⌜ now r ≡ view (now (file .entry)) bucket ⌝ }
+{
+    let at = file::start(header.slots, bucket);
+    let from = at + 8;
+    let to = from + 24 * layout::read2(file, at + 4) as usize;
+    &file[from..to]
+}
+
 // The used slots of a bucket, as a part of the file; no byte of it if the header is unsound, the number is
 // too high or the bucket is unsound.
 pub fn view(file: &[u8], bucket: u64) -> &[u8]
@@ -82,35 +97,53 @@ pub fn view(file: &[u8], bucket: u64) -> &[u8]
     if !file::bucket_sound(file, header, number) {
         return &file[0..0];
     }
-    let slots = header.slots;
-    let at = file::start(slots, number);
-    let from = at + 8;
-    let to = from + 24 * layout::read2(file, at + 4) as usize;
-    &file[from..to]
+    used_slots(file, header, number)
 }
 
-// Writes the figures of a new file's header over zeros.
+// Writes the header of a new file.
 fn put_figures(file: &mut [u8], capacity: u64, slots: u64, most: u64)
     requires { ⌜ (16 ≤ length (now file)) × (capacity < 256) × (slots < 256) ⌝ }
     ensures { λ _. ⌜ now (file .exit)
-        ≡ set (edit 6 (leBytes 2 most) (set (edit 0 fileMark (now (file .entry))) 3 capacity)) 8 slots ⌝ }
+        ≡ edit 0 (headerBytes («at» 0 0) capacity slots most) (now (file .entry)) ⌝ }
 {
     layout::put(file, 0, b"LF");
-    file[3] = capacity as u8;
-    layout::put2(file, 6, most);
-    file[8] = slots as u8;
+    let figures = [
+        0,
+        capacity as u8,
+        0,
+        0,
+        (most % 256) as u8,
+        (most / 256 % 256) as u8,
+        slots as u8,
+        0,
+        0,
+        0,
+        0,
+        0,
+        0,
+        0,
+    ];
+    layout::put(file, 2, &figures);
 }
 
-// Writes the sound file in state (0, 0) without records.
+// Writes the sound file in state (0, 0) without records, of figures that fit.
+fn put_file(file: &mut [u8], capacity: u64, slots: u64, most: u64)
+    requires { ⌜ Figures (length (now file)) capacity slots most ⌝ }
+    ensures { λ _. ⌜ now (file .exit) ≡ created capacity slots most ⌝ }
+{
+    layout::clear(file);
+    put_figures(file, capacity, slots, most);
+    let end = 16 + (8 + 24 * slots as usize);
+    division::renew(&mut file[16..end], slots as u32, 0);
+}
+
+// Makes a new file of figures that fit, or answers 13.
 pub fn create(file: &mut [u8], capacity: u64, slots: u64, most: u64) -> u8
     ensures { λ r. ⌜ record { answer = r; file = now (file .exit) } ≡ create (now (file .entry)) capacity slots most ⌝ }
 {
     if !file::figures_fit(file.len() as u64, capacity, slots, most) {
         return 13;
     }
-    layout::clear(file);
-    put_figures(file, capacity, slots, most);
-    let end = 16 + (8 + 24 * slots as usize);
-    division::renew(&mut file[16..end], slots as u32, 0);
+    put_file(file, capacity, slots, most);
     0
 }

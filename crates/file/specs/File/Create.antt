@@ -7,7 +7,8 @@ use native.Mathlib.Nat.{suc-mul, add-comm, mul-le-mul-right}
 use mathlib.Core.Logic.{by-cases}
 use native.Mathlib.Decide.{decLt}
 use native.Mathlib.Omega.{arith}
-use lib.ListN.{length, getD, take, drop, set, replicate, length-append, length-replicate, getD-replicate}
+use borrow.Author.Tests.{not-true, not-false}
+use lib.ListN.{length, getD, take, drop, replicate, length-append, length-replicate, getD-replicate}
 use lib.ListN.{List·getD-eq-default, replicate-append-replicate}
 use lib.Seq.{take-at, drop-at, getD-append-add}
 use Rattle.address.specs.Limits.{firstBuckets}
@@ -15,9 +16,9 @@ use Rattle.address.specs.declared.Image.{Image}
 use Rattle.address.specs.Rules.{«at», buckets}
 use Rattle.address.specs.Rules.Hash.{span-is}
 use Rattle.address.specs.Rules.Cases.{buckets-is, level-rest}
-use Rattle.layout.specs.Bytes.{Bytes, leBytes, allBelow, allZero, edit, part}
+use Rattle.layout.specs.Bytes.{Bytes, allBelow, allZero, edit, part}
 use Rattle.layout.specs.Bytes.Tests.{and-both, replicate-zero, zero-all, all-of}
-use Rattle.layout.specs.Bytes.Edit.{edit-seam, part-seam, part-at, length-part, append-bytes, zeros-bytes}
+use Rattle.layout.specs.Bytes.Edit.{edit-seam, edit-next, part-seam, part-at, length-part, append-bytes, zeros-bytes}
 use Rattle.layout.specs.Bytes.Numbers.{leBytes-two, le-two}
 use Rattle.layout.specs.Replies.{refuse, reply, reply-none, reply-here, reply-past}
 use Rattle.bucket.specs.Region.{slotAt, ridesOf, bucketSound, encode}
@@ -41,23 +42,22 @@ zeros-at n k = by-cases (decLt k n) (λ h. getD-replicate n k 0 0 h)
 zeros-split : (n m : ℕ) → zeros (n + m) ≡ zeros n ++ zeros m
 zeros-split n m = sym (replicate-append-replicate n m 0)
 
--- the header, written over zeros
-pub header-written : (b S M m : ℕ)
-    → set (edit 6 (leBytes 2 M) (set (edit 0 fileMark (replicate (16 + m) 0)) 3 b)) 8 S
-    ≡ headerBytes («at» 0 0) b S M ++ replicate m 0
+-- a new file's header, byte by byte
+pub header-is : (b S M : ℕ)
+    → headerBytes («at» 0 0) b S M ≡ 76 ∷ 70 ∷ 0 ∷ b ∷ 0 ∷ 0 ∷ M % 256 ∷ M / 256 % 256 ∷ S ∷ zeros (16 - firstZero)
 unfolding headerBytes
-header-written b S M m = rw (leBytes-two M, leBytes-two 0)
-    (ap (λ (l : List ℕ). set (edit 6 (M % 256 ∷ M / 256 % 256 ∷ []) (set (edit 0 fileMark l) 3 b)) 8 S)
-    (zeros-split 16 m)
-    ∙ ap (λ (l : List ℕ). set (edit 6 (M % 256 ∷ M / 256 % 256 ∷ []) (set l 3 b)) 8 S)
-    (edit-seam [] fileMark (replicate 16 0 ++ replicate m 0) 0 refl)
-    ∙ ap (λ (l : List ℕ). set l 8 S)
-    (edit-seam (76 ∷ 70 ∷ 0 ∷ b ∷ 0 ∷ 0 ∷ []) (M % 256 ∷ M / 256 % 256 ∷ []) (replicate 10 0 ++ replicate m 0) 6
-    refl))
+header-is b S M = rw (leBytes-two 0, leBytes-two M)
+
+-- it is written as its mark and its figures
+pub header-written : (file : List ℕ) (b S M : ℕ) → 16 ≤ length file → {one two : List ℕ}
+    → one ≡ edit 0 fileMark file
+    → two ≡ edit 2 (0 ∷ b ∷ 0 ∷ 0 ∷ M % 256 ∷ M / 256 % 256 ∷ S ∷ zeros (16 - firstZero)) one
+    → two ≡ edit 0 (headerBytes («at» 0 0) b S M) file
+header-written file b S M fits e f = f ∙ ap (edit 2 _) e ∙ edit-next 0 fileMark _ file fits
+    ∙ ap (λ (l : List ℕ). edit 0 l file) (sym (header-is b S M))
 
 pub length-header : (b S M : ℕ) → length (headerBytes («at» 0 0) b S M) ≡ 16
-unfolding headerBytes
-length-header b S M = rw (leBytes-two 0, leBytes-two M)
+length-header b S M = rw (header-is b S M)
 
 -- one region and the others
 one-region : (S M : ℕ) → 1 ≤ M → M * (8 + 24 * S) ≡ 8 + 24 * S + (M - 1) * (8 + 24 * S)
@@ -67,19 +67,19 @@ one-region S M some = ap (λ (m : ℕ). m * (8 + 24 * S)) one ∙ suc-mul (M - 1
     one : M ≡ suc (M - 1)
     one = omega arith
 
--- the file that is left: zeros, then the header's figures, then the first bucket's region
+-- the file that is left: zeros, then the header, then the first bucket's region
 module _ (b S M : ℕ) (file : List ℕ) (fits : Figures (length file) b S M) where
   all : M * (8 + 24 * S) ≡ 8 + 24 * S + (M - 1) * (8 + 24 * S)
   all = one-region S M (fits .some-buckets)
 
-  pub create-room : 16 + (8 + 24 * S) ≤ length file
-  create-room = omega (arith, fits .whole, all)
+  pub create-room : {cleared headed : ℕ} → cleared ≡ length file → headed ≡ cleared → 16 + (8 + 24 * S) ≤ headed
+  create-room ec eh = omega (arith, fits .whole, all)
 
-  pub created-written : (cleared headed region : List ℕ) → cleared ≡ replicate (length file) 0
-      → headed ≡ set (edit 6 (leBytes 2 M) (set (edit 0 fileMark cleared) 3 b)) 8 S → region ≡ encode S 0 []
+  pub created-written : {cleared headed region : List ℕ} → cleared ≡ replicate (length file) 0
+      → headed ≡ edit 0 (headerBytes («at» 0 0) b S M) cleared → region ≡ encode S 0 []
       → take 16 headed ++ (region ++ drop (16 + (8 + 24 * S) - 16) (drop 16 headed)) ≡ created b S M
   unfolding created
-  created-written cleared headed region ec eh er =
+  created-written {headed = headed} ec eh er =
       ap₂ (λ (l r : List ℕ). take 16 l ++ (r ++ drop (16 + (8 + 24 * S) - 16) (drop 16 l))) whole er
       ∙ ap₂ (λ (h z : List ℕ). h ++ (encode S 0 [] ++ z)) (take-at head tail 16 (length-header b S M))
       (ap (drop (16 + (8 + 24 * S) - 16)) (drop-at head tail 16 (length-header b S M)) ∙ less)
@@ -91,8 +91,9 @@ module _ (b S M : ℕ) (file : List ℕ) (fits : Figures (length file) b S M) wh
       tail = zeros (M * (8 + 24 * S))
 
       whole : headed ≡ headerBytes («at» 0 0) b S M ++ zeros (M * (8 + 24 * S))
-      whole = eh ∙ ap (λ (l : List ℕ). set (edit 6 (leBytes 2 M) (set (edit 0 fileMark l) 3 b)) 8 S)
-          (ec ∙ ap zeros (fits .whole)) ∙ header-written b S M (M * (8 + 24 * S))
+      whole = eh ∙ ap (edit 0 head) (ec ∙ ap zeros (fits .whole) ∙ zeros-split 16 (M * (8 + 24 * S)))
+          ∙ edit-seam [] head (zeros 16 ++ tail) 0 refl
+          ∙ ap (λ (n : ℕ). head ++ drop n (zeros 16 ++ tail)) (length-header b S M)
 
       less : drop (16 + (8 + 24 * S) - 16) tail ≡ zeros ((M - 1) * (8 + 24 * S))
       less = ap₂ (λ (n m : ℕ). drop n (zeros m)) wide all
@@ -104,15 +105,21 @@ module _ (b S M : ℕ) (file : List ℕ) (fits : Figures (length file) b S M) wh
           wide = omega arith
 
 -- create, by its cases
-pub create-refused : (file : List ℕ) (b S M : ℕ) → figuresFit (length file) b S M ≡ false
-    → record { answer = 13; file = file } ≡ create file b S M
-unfolding create
-create-refused file b S M h = rw h
+module _ (file : List ℕ) (b S M : ℕ) {fits : Bool} (ef : fits ≡ figuresFit (length file) b S M) where
+  pub create-refused : not fits ≡ true → record { answer = 13; file = file } ≡ create file b S M
+  unfolding create
+  create-refused h = rw (sym ef ∙ not-true fits h)
 
-pub create-done : (file after : List ℕ) (b S M : ℕ) → figuresFit (length file) b S M ≡ true → after ≡ created b S M
-    → record { answer = 0; file = after } ≡ create file b S M
-unfolding create
-create-done file after b S M h e = rw h (λ i. record { answer = 0; file = e i })
+  module _ (passed : not fits ≡ false) where
+    fitting : figuresFit (length file) b S M ≡ true
+    fitting = sym ef ∙ not-false fits passed
+
+    pub create-fits : Figures (length file) b S M
+    create-fits = figures (length file) b S M fitting
+
+    pub create-done : {after : List ℕ} → after ≡ created b S M → record { answer = 0; file = after } ≡ create file b S M
+    unfolding create
+    create-done e = rw fitting (λ i. record { answer = 0; file = e i })
 
 -- its reply, as document 01 lists it
 pub create-reply : (file : List ℕ) (b S M : ℕ)
@@ -167,10 +174,8 @@ module _ (b S M : ℕ) (fits : Figures (fileLength S M) b S M) where
   behind = encode S 0 [] ++ zeros ((M - 1) * (8 + 24 * S))
 
   is-laid : created b S M ≡ head ++ behind
-  unfolding created headerBytes head behind
-  is-laid = ap₂
-      (λ (p q : List ℕ). fileMark ++ (0 ∷ b ∷ []) ++ p ++ q ++ (S ∷ []) ++ zeros (16 - firstZero)
-      ++ (encode S 0 [] ++ zeros ((M - 1) * (8 + 24 * S)))) (leBytes-two 0) (leBytes-two M)
+  unfolding created head behind
+  is-laid = ap (λ (l : List ℕ). l ++ (encode S 0 [] ++ zeros ((M - 1) * (8 + 24 * S)))) (header-is b S M)
 
   most : mostOf (head ++ behind) ≡ M
   unfolding head
@@ -315,7 +320,8 @@ module _ (b S M : ℕ) (fits : Figures (fileLength S M) b S M) where
       )
 
   laid-empty : (a : ℕ) → a < bucketsOf (head ++ behind) → ridesOf (regionOf (head ++ behind) a) ≡ []
-  laid-empty zero there = ap ridesOf first-region ∙ rides-encode S 0 [] tt (omega arith) (omega (arith, fits .few-slots))
+  laid-empty zero there = ap ridesOf first-region
+      ∙ rides-encode S 0 [] tt (omega arith) (omega (arith, fits .few-slots))
   laid-empty (suc a) there = absurd (omega (arith, laid-buckets))
 
   pub created-fresh : Fresh (created b S M)
@@ -350,6 +356,7 @@ create-fresh file b S M = go (figuresFit (length file) b S M) refl
   where
     go : (fits : Bool) → figuresFit (length file) b S M ≡ fits → create file b S M .answer ≡ 0
         → Fresh (create file b S M .file)
-    go true e done = subst Fresh (ap (λ (o : Created). o .file) (create-done file _ b S M e refl))
+    go true e done = subst Fresh (ap (λ (o : Created). o .file) (create-done file b S M refl (ap not e) refl))
         (created-fresh b S M (create-figures file b S M e))
-    go false e done = absurd (omega (arith, done, ap (λ (o : Created). o .answer) (create-refused file b S M e)))
+    go false e done = absurd
+        (omega (arith, done, ap (λ (o : Created). o .answer) (create-refused file b S M refl (ap not e))))

@@ -23,8 +23,9 @@ use Rattle.bucket.specs.Region.{slotAt, countOf, soundWith}
 use Rattle.bucket.specs.Region.Sound.{bucket-judged, bucket-few}
 use Rattle.file.specs.declared.Header.{Header}
 use Rattle.file.specs.File.{mostOf, slotsOf, stateOf, startOf, fileLength, bucketsOf, regionOf, headerSound}
+use Rattle.file.specs.File.{headerOf}
 use Rattle.file.specs.File.{bucketSoundIn, regionSound, fileSound, Checked, lowestUnsound, check, view}
-use Rattle.file.specs.File.Judge.{Ranges, Known}
+use Rattle.file.specs.File.Judge.{Ranges, Known, known-passed, unknown-failed}
 
 -- the machine's room for a place
 pub place-room : (S a : ℕ) → S ≤ mostSlots → a ≤ mostBuckets → a * (8 + 24 * S) ≤ mostBuckets * (8 + 24 * mostSlots)
@@ -144,31 +145,41 @@ module _ (file : List ℕ) where
       whole : mostOf file - 0 ≡ mostOf file
       whole = omega arith
 
-  pub lower-here : (k : ℕ) → Lower k → k < mostOf file → regionSound file k ≡ false → k ≡ lowestUnsound file
-  lower-here k so h bad = sym (first-here (λ a. not (regionSound file a)) (mostOf file) k h (ap not bad)) ∙ so
+  module _ {header : Header} (seen : Known file header) (k : ℕ) (so : Lower k) where
+    pub lower-end : header .most ≤ k → k ≡ lowestUnsound file
+    lower-end h = sym (first-none (λ a. not (regionSound file a)) (mostOf file) k (omega (arith, seen .most))) ∙ so
 
-  pub lower-more : (k : ℕ) → Lower k → k < mostOf file → regionSound file k ≡ true → Lower (k + 1)
-  lower-more k so h good = sym (first-later (λ a. not (regionSound file a)) (mostOf file) k h (ap not good)) ∙ so
+    module _ (there : k < header .most) {sound : Bool} (es : sound ≡ regionSound file k) where
+      below : k < mostOf file
+      below = omega (arith, seen .most)
 
-  pub lower-end : (k : ℕ) → Lower k → mostOf file ≤ k → k ≡ lowestUnsound file
-  lower-end k so h = sym (first-none (λ a. not (regionSound file a)) (mostOf file) k h) ∙ so
+      pub lower-here : not sound ≡ true → k ≡ lowestUnsound file
+      lower-here bad = sym (first-here (λ a. not (regionSound file a)) (mostOf file) k below (ap not (sym es) ∙ bad))
+          ∙ so
+
+      pub lower-more : not sound ≡ false → Lower (k + 1)
+      lower-more good = sym (first-later (λ a. not (regionSound file a)) (mostOf file) k below (ap not (sym es) ∙ good))
+          ∙ so
 
 -- ---- check, by its cases
 
-pub check-header : (file : List ℕ) → headerSound file ≡ false → record { answer = 5; bucket = noBucket } ≡ check file
-unfolding check
-check-header file h = rw h
+module _ (file : List ℕ) {header : Header} (read : header ≡ headerOf file) where
+  pub check-header : not (header .sound) ≡ true → record { answer = 5; bucket = noBucket } ≡ check file
+  unfolding check
+  check-header h = rw (unknown-failed file header read h)
 
-pub check-region : (file : List ℕ) → headerSound file ≡ true → (k : ℕ) → k ≡ lowestUnsound file → k < mostOf file
-    → record { answer = 7; bucket = k } ≡ check file
-unfolding check
-check-region file h k e l = rw (h, lt-ltb (lowestUnsound file) (mostOf file) (omega arith))
-    (λ i. record { answer = 7; bucket = e i })
+  module _ (passed : not (header .sound) ≡ false) {lowest : ℕ} (least : lowest ≡ lowestUnsound file) where
+    seen : Known file header
+    seen = known-passed file header read passed
 
-pub check-none : (file : List ℕ) → headerSound file ≡ true → (k : ℕ) → k ≡ lowestUnsound file → mostOf file ≤ k
-    → record { answer = 0; bucket = noBucket } ≡ check file
-unfolding check
-check-none file h k e l = rw (h, le-ltb (lowestUnsound file) (mostOf file) (omega arith))
+    pub check-region : lowest < header .most → record { answer = 7; bucket = lowest } ≡ check file
+    unfolding check
+    check-region h = rw (seen .sound, lt-ltb (lowestUnsound file) (mostOf file) (omega (arith, seen .most)))
+        (λ i. record { answer = 7; bucket = least i })
+
+    pub check-none : header .most ≤ lowest → record { answer = 0; bucket = noBucket } ≡ check file
+    unfolding check
+    check-none h = rw (seen .sound, le-ltb (lowestUnsound file) (mostOf file) (omega (arith, seen .most)))
 
 -- its reply, as document 01 lists it
 pub check-reply : (file : List ℕ)
@@ -203,6 +214,25 @@ pub view-unsound : (file : List ℕ) (a : ℕ) → headerSound file ≡ true →
     → [] ≡ view file a
 unfolding view
 view-unsound file a h l u = rw (h, lt-ltb a (bucketsOf file) l, u)
+
+-- the same of a header that was read, and of a number and a bucket judged by it
+module _ (file : List ℕ) (a : ℕ) {header : Header} (read : header ≡ headerOf file) where
+  pub view-headless : not (header .sound) ≡ true → [] ≡ view file a
+  view-headless h = view-header file a (unknown-failed file header read h)
+
+  module _ (passed : not (header .sound) ≡ false) {n : ℕ} (en : n ≡ buckets firstBuckets (header .state)) where
+    good : Known file header
+    good = known-passed file header read passed
+
+    pub view-past : n ≤ a → [] ≡ view file a
+    view-past h = view-high file a (good .sound) (omega (arith, buckets-known file header good n en))
+
+    module _ (low : a < n) where
+      pub view-there : a < bucketsOf file
+      view-there = known-below file header good a en low
+
+      pub view-bad : {sound : Bool} → sound ≡ bucketSoundIn file a → not sound ≡ true → [] ≡ view file a
+      view-bad {sound} es h = view-unsound file a (good .sound) view-there (sym es ∙ not-true sound h)
 
 -- a sound bucket's count is within its slots
 pub sound-few : (file : List ℕ) (a : ℕ) → bucketSoundIn file a ≡ true → countOf (regionOf file a) ≤ slotsOf file

@@ -1,10 +1,7 @@
 -- `upkeep::lowest_unsound`: the lowest unsound region from here on is the lowest of all.
-use borrow.Author.Needs.{needs}
 use Prim.Native.Nat.{_≤_, _-_}
-use mathlib.Core.Path.{sym, _∙_}
-use native.Mathlib.Omega.{arith}
-use borrow.Author.Tests.{not-true, not-false}
 use Rattle.file.specs.File.Region.{Lower, lower-none, lower-here, lower-more, lower-end}
+use borrow.Author.Needs.{needs}
 use Rattle.upkeep.proofs.lowest_unsound.Statement.{statement}
 use Rattle.upkeep.proofs.lowest_unsound.Tie as tie
 
@@ -15,16 +12,13 @@ abbrev μ-loop : tie.MeasureT-loop
 μ-loop file header most region₀ region = most - region
 
 loop-holds : tie.Need-loop-holds Inv-loop μ-loop
-loop-holds c = (omega arith, lower-none (c .before .args .file .now))
+loop-holds c = (search needs, search lower-none)
 
 region-sound-requires : tie.Need-region-sound-requires Inv-loop μ-loop
 region-sound-requires c κs = search needs
 
 returns : tie.Need-returns Inv-loop μ-loop
-returns c =
-    let l = c .before .before .before .loop in
-    lower-here (c .before .before .before .before .before .args .file .now) (l .region) (l .inv .1) (omega arith)
-    (sym (c .before .region-sound .ensures) ∙ not-true _ (c .if1 .taken))
+returns c = search lower-here
 
 add-region : tie.Need-add-region Inv-loop μ-loop
 add-region c = search needs
@@ -33,17 +27,10 @@ loop-less : tie.Need-loop-less Inv-loop μ-loop
 loop-less c = search needs
 
 loop-again : tie.Need-loop-again Inv-loop μ-loop
-loop-again c =
-    let l = c .before .before .before .loop in (
-      omega arith,
-      lower-more (c .before .before .before .before .before .args .file .now) (l .region) (l .inv .1)
-          (omega arith) (sym (c .before .region-sound .ensures) ∙ not-false _ (c .if1 .left)),
-    )
+loop-again c = (search needs, search lower-more)
 
 returns-2 : tie.Need-returns-2 Inv-loop μ-loop
-returns-2 c =
-    let l = c .before .loop in
-    lower-end (c .before .before .before .args .file .now) (l .region) (l .inv .1) (omega arith)
+returns-2 c = search lower-end
 
 pub lowest-unsound-spec : {M : Type 1} → statement M
 lowest-unsound-spec =

@@ -1,10 +1,5 @@
--- `upkeep::put_figures` writes mark, capacity, most buckets and slots, each at its place.
-use mathlib.Core.Path.{ap, _∙_}
-use Prim.Native.Nat.{ℕ}
-use mathlib.Core.List.{List}
-use native.Mathlib.Omega.{arith}
-use lib.ListN.{set, length-set}
-use Rattle.layout.specs.Bytes.{edit, leBytes}
+-- `upkeep::put_figures` writes the mark, then the figures behind it: a new file's header.
+use Rattle.file.specs.File.Create.{header-written}
 use borrow.Author.Needs.{needs}
 use Rattle.upkeep.proofs.put_figures.Statement.{statement}
 use Rattle.upkeep.proofs.put_figures.Tie as tie
@@ -15,50 +10,29 @@ slice-aggregate-put c = search needs
 put-requires : tie.Need-put-requires
 put-requires c κs = search needs
 
-cast-file : tie.Need-cast-file
-cast-file c = search needs
+cast-t12 : tie.Need-cast-t12
+cast-t12 c = search needs
 
-slice-write-file : tie.Need-slice-write-file
-slice-write-file c = search needs
+cast-t14 : tie.Need-cast-t14
+cast-t14 c = search needs
 
-put2-requires : tie.Need-put2-requires
-put2-requires c κs = omega (
-  arith,
-  length-set (c .before .before .before .put .last .0) 3
-      (c .before .before .before .before .before .before .before .args .capacity),
-  c .before .before .before .put .kept,
-)
+cast-t17 : tie.Need-cast-t17
+cast-t17 c = search needs
 
-cast-file-2 : tie.Need-cast-file-2
-cast-file-2 c = search needs
+cast-t18 : tie.Need-cast-t18
+cast-t18 c = search needs
 
-slice-write-file-2 : tie.Need-slice-write-file-2
-slice-write-file-2 c = omega (
-  arith,
-  c .before .before .put2 .kept,
-  length-set (c .before .before .before .before .before .before .put .last .0)
-      3 (c .before .before .before .before .before .before .before .before .before .before .args .capacity),
-  c .before .before .before .before .before .before .put .kept,
-)
+slice-aggregate-put-2 : tie.Need-slice-aggregate-put-2
+slice-aggregate-put-2 c = search needs
+
+put-requires-2 : tie.Need-put-requires-2
+put-requires-2 c κs = search needs
 
 same-length : tie.Need-same-length
-same-length c = length-set (c .before .before .put2 .last .0) 8
-    (c .before .before .before .before .before .before .before .before .before .before .args .slots)
-    ∙ omega (
-      arith,
-      c .before .before .put2 .kept,
-      length-set (c .before .before .before .before .before .before .put .last .0)
-          3 (c .before .before .before .before .before .before .before .before .before .before .args .capacity),
-      c .before .before .before .before .before .before .put .kept,
-    )
+same-length c = search needs
 
 returns : tie.Need-returns
-returns c =
-    let a = c .before .before .before .before .before .before .before .before .before .before .args in
-    ap (λ (l : List ℕ). set l 8 (a .slots))
-    (c .before .before .put2 .ensures
-    ∙ ap (λ (l : List ℕ). edit 6 (leBytes 2 (a .most)) (set l 3 (a .capacity)))
-    (c .before .before .before .before .before .before .put .ensures))
+returns c = search header-written
 
 pub put-figures-spec : {M : Type 1} → statement M
 put-figures-spec =
@@ -66,10 +40,11 @@ put-figures-spec =
     (tie.spec
     slice-aggregate-put
     put-requires
-    cast-file
-    slice-write-file
-    put2-requires
-    cast-file-2
-    slice-write-file-2
+    cast-t12
+    cast-t14
+    cast-t17
+    cast-t18
+    slice-aggregate-put-2
+    put-requires-2
     same-length
     returns)
