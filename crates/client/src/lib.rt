@@ -80,22 +80,20 @@ pub struct Caller {
 fn no_caller(reply: u8) -> Caller
     ensures { λ r. ⌜ r .reply ≡ reply ⌝ }
 {
-    Caller {
-        reply,
-        image: Image {
-            level: 0,
-            pointer: 0,
-        },
-    }
+    let image = Image {
+        level: 0,
+        pointer: 0,
+    };
+    Caller { reply, image }
 }
 
 // Judges table, number and record in the replies' order: 2, 3, 4, or 0.
 pub fn caller_of(table: &[u8], client: u64) -> Caller
     ensures { λ r. ⌜ Called (now (table .entry)) client (r .reply) (r .image) ⌝ }
 {
-    let refused = table_refusal(table, client);
-    if refused != 0 {
-        return no_caller(refused);
+    let reply = table_refusal(table, client);
+    if reply != 0 {
+        return no_caller(reply);
     }
     let record = client_of(table, client);
     if !record.sound {

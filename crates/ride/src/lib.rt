@@ -47,9 +47,9 @@ fn finish_search(
     let header = own.header;
     let walk = own.walk;
     let count = file::held_in(file, header, own.bucket);
-    let held = own.place < count;
+    let found = own.place < count;
     client::put_image(table, client, own.next);
-    if held {
+    if found {
         put_found(file, header, own.bucket, own.place, walk, answer);
         return 0;
     }
