@@ -1,9 +1,5 @@
 -- `lines::put_ride` reads reply, count and buckets from the block and writes the line of their answer.
-use mathlib.Core.Path.{sym}
-use mathlib.Core.List.{[], _∷_}
-use native.Mathlib.Omega.{arith}
-use lib.Seq.{length-take-le}
-use Rattle.lines.specs.Lines.Laws.{ride-is}
+use Rattle.lines.specs.Lines.Written.{route-taken, taken-room, ride-wrote}
 use borrow.Author.Needs.{needs}
 use Rattle.lines.proofs.put_ride.Statement.{statement}
 use Rattle.lines.proofs.put_ride.Tie as tie
@@ -45,40 +41,16 @@ array-share-prefix-route : tie.Need-array-share-prefix-route
 array-share-prefix-route c = search needs
 
 slice-aggregate-put-answer : tie.Need-slice-aggregate-put-answer
-slice-aggregate-put-answer c = sym
-    (length-take-le (c .before .before .before .before .route-count .result) _ (omega arith))
+slice-aggregate-put-answer c = search route-taken
 
 put-answer-requires : tie.Need-put-answer-requires
-put-answer-requires c κs =
-    let n = c .before .before .before .before in
-    let z = n .before .before in
-    omega (
-      arith,
-      length-take-le (n .route-count .result)
-          (z .before .before .read2 .result ∷ z .before .read22 .result ∷ z .read23 .result ∷ []) (omega arith),
-    )
+put-answer-requires c κs = search taken-room
 
 same-length : tie.Need-same-length
 same-length c = search needs
 
 returns : tie.Need-returns
-returns c =
-    let w = c .before .before .before .before in
-    let n = w .before .before .before in
-    let z = n .before .before in
-    let y = z .before in
-    let x = y .before in
-    let a = x .before .before .before .args in
-    let is = ride-is (a .letter) (w .wide .result) (x .read2 .result) (y .read22 .result) (z .read23 .result)
-    (a .answer .now)
-    (w .wide .ensures .0) (x .read2 .ensures .0) (y .read22 .ensures .0) (z .read23 .ensures .0) in
-    let line = c .before .before .put-answer .ensures in
-    let few = length-take-le (n .route-count .result) (x .read2 .result ∷ y .read22 .result ∷ z .read23 .result ∷ [])
-    (omega arith) in
-    record {
-      wrote = rw (is, ← (n .route-count .ensures)) (line .wrote);
-      short = rw (is, ← (n .route-count .ensures)) (omega (arith, line .short, few));
-    }
+returns c = search ride-wrote
 
 pub put-ride-spec : {M : Type 1} → statement M
 put-ride-spec =

@@ -1,22 +1,23 @@
 -- A function that writes its parts one after another: before each part there is room for it, and all of them together
 -- are the text. Each group follows its function in the source, with a law for each call and each way out.
-use Prim.Native.Nat.{ℕ, _+_, _-_, _/_, _%_, _^_, _≤_, _<_}
-use mathlib.Core.Path.{_≡_, ap}
+use Prim.Native.Nat.{ℕ, _+_, _-_, _/_, _%_, _^_, _≤_, _<_, min}
+use mathlib.Core.Path.{_≡_, sym, ap}
 use mathlib.Core.List.{List, [], _∷_}
 use native.Mathlib.Omega.{arith}
 use mir.Facts.{fits-16-64}
 use mir.Syntax.{w16, w64}
 use mir.Val.{Fits}
 use lib.ListN.{length, getD, take, drop}
-use lib.Seq.{take-all}
+use lib.Seq.{take-all, length-take-le}
+use Rattle.layout.specs.Bytes.{byteAt, leAt}
 use Rattle.lines.specs.Bytes.{lineFeed, space, comma, dash, digit0, greater, question, letterA, letterG}
 use Rattle.lines.specs.Lines.{decimal, Wrote, WroteLine, eachAfter, joined, unknownLine, heading, answerLine}
-use Rattle.lines.specs.Lines.{splitRoute, splitLine, scanned, scanLine, lineRoom}
+use Rattle.lines.specs.Lines.{rideLine, splitRoute, splitLine, scanned, scanLine, lineRoom}
 use Rattle.lines.specs.Lines.Decimal.{decimal-one, decimal-more, decimal-some, decimal-tail}
 use Rattle.lines.specs.Lines.Edit.{wrote-none, wrote-both, wrote-length}
 use Rattle.lines.specs.Lines.Laws.{each-none, each-more, each-room, joined-none, joined-some, joined-length}
 use Rattle.lines.specs.Lines.Laws.{joined-short, unknown-is, heading-is, heading-length, heading-short}
-use Rattle.lines.specs.Lines.Laws.{answer-is, answer-short, split-refused, split-done, split-length}
+use Rattle.lines.specs.Lines.Laws.{ride-is, answer-is, answer-short, split-refused, split-done, split-length}
 use Rattle.lines.specs.Lines.Laws.{buckets-short, split-is, split-short, scanned-refused, scanned-done}
 use Rattle.lines.specs.Lines.Laws.{scanned-length, scanned-short, scan-is, scan-short}
 
@@ -147,6 +148,25 @@ module _ (at letter reply : ℕ) (route entry : List ℕ) (small : reply < 2 ^ 3
         wrote = rw (answer-is letter reply route) (wrote-both (wrote-both first second) third);
         short = answer-short letter reply route small (λ i. known i .fits);
       }
+
+-- the line of an insert or a search, by what is read of its answer block
+module _ (bytes : List ℕ) (one two three : ℕ) {count : ℕ} (some : count ≡ min (byteAt bytes 1) 3) where
+  pub route-taken : count ≡ length (take count (one ∷ two ∷ three ∷ []))
+  route-taken = sym (length-take-le count (one ∷ two ∷ three ∷ []) (omega arith))
+
+  pub taken-room : (at : ℕ) {size : ℕ} → at + lineRoom 3 ≤ size
+      → at + lineRoom (length (take count (one ∷ two ∷ three ∷ []))) ≤ size
+  taken-room at fits = omega (arith, route-taken)
+
+  pub ride-wrote : (letter : ℕ) {reply at end : ℕ} {entry exit : List ℕ} → reply ≡ byteAt bytes 0
+      → one ≡ leAt 2 bytes 2 → two ≡ leAt 2 bytes 4 → three ≡ leAt 2 bytes 6
+      → WroteLine (lineRoom (length (take count (one ∷ two ∷ three ∷ [])))) at
+      (answerLine letter reply (take count (one ∷ two ∷ three ∷ []))) entry exit end
+      → WroteLine (lineRoom 3) at (rideLine letter bytes) entry exit end
+  ride-wrote letter {reply} r x y z w = rw (ride-is letter reply one two three bytes r x y z, ← some) (record {
+    wrote = w .wrote;
+    short = omega (arith, w .short, route-taken);
+  })
 
 -- the buckets of a split: none, or the two numbers with a separator between them
 module _ (at reply old new : ℕ) (entry : List ℕ)
