@@ -15,7 +15,7 @@ use Rattle.file.specs.File.Create.{create-reply, create-left}
 use Rattle.ride.specs.Call.{adjustedTable, search, insert}
 use Rattle.scan.specs.Scan.{scan}
 use Rattle.scan.specs.Scan.Outcome.{scan-refused}
-use Rattle.demands.specs.Run.{Memory, Call, Insert, Search, Scan, AllTyped, Each, after, run}
+use Rattle.demands.specs.Run.{Memory, Call, Insert, Search, AllTyped, Each, after, run}
 use Rattle.demands.specs.Run.{replied, conditions, Finds, Accepted, Kept, Ready, sent}
 use Rattle.demands.specs.Run.{Reached, VisitsOnce, believed, wrongFirst, forwardsOf, summed}
 use Rattle.demands.specs.Run.{NotJoined, started, FromNothing}

@@ -234,8 +234,8 @@ sent m (View bucket) = Nothing
 sent m (Parent bucket) = Nothing
 
 -- The bucket that the client sends it to.
-abbrev pub firstOf : Memory → ℕ → ℕ → ℕ
-firstOf m client key = address firstBuckets (imageOf (m .table) client) key
+abbrev pub sentTo : Memory → ℕ → ℕ → ℕ
+sentTo m client key = address firstBuckets (imageOf (m .table) client) key
 
 -- Its defined route; with 7 it ends at the unsound bucket.
 pub routeOf : Memory → ℕ → ℕ → List ℕ
@@ -247,7 +247,7 @@ routeOf m client key =
 pub Reached : Memory → Sent → Type 0
 Reached m Nothing = Unit {0}
 Reached m (Key client key) =
-    (h : ℕ) × (h ≤ 2) × Delivered firstBuckets (stateOf (m .file)) key (firstOf m client key) h
+    (h : ℕ) × (h ≤ 2) × Delivered firstBuckets (stateOf (m .file)) key (sentTo m client key) h
     (routeOf m client key)
 
 -- Of a client: 1 for a key sent whose first bucket is not the key's own, and the forwards of its
@@ -255,7 +255,7 @@ Reached m (Key client key) =
 pub wrongFirst : ℕ → Memory → Sent → ℕ
 wrongFirst client m Nothing = 0
 wrongFirst client m (Key other key) =
-    cond (eqb other client && not (eqb (firstOf m client key) (ownOf (m .file) key))) 1 0
+    cond (eqb other client && not (eqb (sentTo m client key) (ownOf (m .file) key))) 1 0
 
 pub forwardsOf : ℕ → Memory → Sent → ℕ
 forwardsOf client m Nothing = 0

@@ -1,6 +1,6 @@
 // Insert and search: what they come to, and what is written.
 use file::Header;
-use route::Reached;
+use route::Arrival;
 use route::Walk;
 ghost use mathlib.Core.Path.{_≡_};
 ghost use mathlib.Core.Bool.{true, cond};
@@ -36,7 +36,7 @@ fn finish_search(
     client: u64,
     key: u64,
     answer: &mut [u8],
-    own: Reached,
+    own: Arrival,
 ) -> u8
     requires { ⌜ (length (now answer) ≡ 24)
         × AtOwn (now file) (now table) client key (own .header) (own .next) (own .walk) (own .bucket) (own .place) ⌝ }
@@ -115,7 +115,7 @@ fn finish_insert(
     key: u64,
     payload: &[u8],
     answer: &mut [u8],
-    own: Reached,
+    own: Arrival,
 ) -> u8
     requires { ⌜ (length (now answer) ≡ 24) × (length (now payload) ≡ 14)
         × AtOwn (now file) (now table) client key (own .header) (own .next) (own .walk) (own .bucket) (own .place) ⌝ }

@@ -176,7 +176,7 @@ fn adjust(state: Image, image: Image, walk: Walk) -> Image
 
 // A key's way: its refusal and the buckets met by then; or 0 at the key's own bucket, with the slot that holds the key
 // there, or the count, and the client's next image.
-pub struct Reached {
+pub struct Arrival {
     pub reply: u8,
     pub header: Header,
     pub next: Image,
@@ -186,7 +186,7 @@ pub struct Reached {
 }
 
 // Follows a key's route from a client's image: 7, or 0.
-fn follow(file: &[u8], header: Header, image: Image, key: u64) -> Reached
+fn follow(file: &[u8], header: Header, image: Image, key: u64) -> Arrival
     requires { ⌜ Known (now file) header × (image .level ≤ mostLevel) × Formed firstBuckets image
         × NotAhead firstBuckets (stateOf (now file)) image ⌝ }
     ensures { λ r. ⌜ Followed (now (file .entry)) key image (r .header) (r .next) (r .walk) (r .bucket) (r .place)
@@ -196,7 +196,7 @@ fn follow(file: &[u8], header: Header, image: Image, key: u64) -> Reached
     let stopped = end.reply;
     let walk = end.walk;
     if stopped != 0 {
-        return Reached {
+        return Arrival {
             reply: stopped,
             header,
             next: image,
@@ -206,7 +206,7 @@ fn follow(file: &[u8], header: Header, image: Image, key: u64) -> Reached
         };
     }
     let next = adjust(header.state, image, walk);
-    Reached {
+    Arrival {
         reply: 0,
         header,
         next,
@@ -217,7 +217,7 @@ fn follow(file: &[u8], header: Header, image: Image, key: u64) -> Reached
 }
 
 // Opens a call and follows its key's route: 2 to 6, 7, or 0.
-pub fn reach(file: &[u8], table: &[u8], client: u64, key: u64) -> Reached
+pub fn reach(file: &[u8], table: &[u8], client: u64, key: u64) -> Arrival
     ensures { λ r. ⌜ Reaching (now (file .entry)) (now (table .entry)) client key (r .header) (r .next) (r .walk)
         (r .bucket) (r .place) (r .reply) ⌝ }
 {
@@ -227,7 +227,7 @@ pub fn reach(file: &[u8], table: &[u8], client: u64, key: u64) -> Reached
     let image = opened.image;
     if refused != 0 {
         let walk = no_walk();
-        return Reached {
+        return Arrival {
             reply: refused,
             header,
             next: image,

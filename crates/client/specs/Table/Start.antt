@@ -1,7 +1,7 @@
 -- Clients at their start: one that is joined is at (0, 0) and its record is sound, and so it stays when others are
 -- joined; a table of a sound length whose clients are all there is sound.
 use Prim.Native.Nat.{ℕ, _+_, _*_, _/_, _%_, _≤_}
-use mathlib.Core.Path.{_≡_, refl, sym, ap, _∙_}
+use mathlib.Core.Path.{_≡_, refl, ap, _∙_}
 use mathlib.Core.Bool.{true, _&&_}
 use mathlib.Core.List.{List}
 use mathlib.Core.Logic.{by-cases}
@@ -14,9 +14,8 @@ use Rattle.address.specs.Limits.{firstBuckets, mostTable}
 use Rattle.address.specs.Rules.{«at», Formed}
 use Rattle.address.specs.Rules.Hash.{span-pos}
 use Rattle.layout.specs.Bytes.Tests.{and-both, all-of}
-use Rattle.layout.specs.Replies.{reply}
-use Rattle.client.specs.Table.{lengthSound, exists, imageOf, recordSound, tableSound, tableRefusals, withImage}
-use Rattle.client.specs.Table.{Joined, join}
+use Rattle.client.specs.Table.{lengthSound, exists, imageOf, recordSound, tableSound, withImage}
+use Rattle.client.specs.Table.{join}
 use Rattle.client.specs.Table.Keeping.{written-length, written-other, other-image, written-image, written-sound}
 use Rattle.client.specs.Table.Keeping.{client-passes}
 use Rattle.client.specs.Table.Laws.{join-ways, record-fits}

@@ -19,7 +19,7 @@ use Rattle.address.specs.Rules.Cases.{buckets-is}
 use Rattle.address.specs.Rules.Hash.{span-is, span-pos}
 use Rattle.address.specs.Rules.Route.{Delivered, delivered, forwards-is, forwards-short, route-right, first-right}
 use Rattle.layout.specs.Replies.{reply}
-use Rattle.client.specs.Table.{exists, imageOf, tableSound, tableRefusals, withImage, join}
+use Rattle.client.specs.Table.{exists, imageOf, tableSound, tableRefusals, withImage}
 use Rattle.client.specs.Table.Keeping.{written-image, written-exists, other-image, table-kept}
 use Rattle.client.specs.Table.Laws.{join-ways, record-fits}
 use Rattle.file.specs.File.Judge.{existing}
@@ -33,7 +33,8 @@ use Rattle.ride.specs.Call.{adjustedTable}
 use Rattle.ride.specs.Call.Keeping.{adjusted-image, adjusted-other, adjusted-exists, adjusted-kept}
 use Rattle.ride.specs.Call.Left.{search-ways, insert-ways}
 use Rattle.demands.specs.Run.{Memory, Call, Join, Insert, Search, Split, Scan, Check, View, Parent, Typed}
-use Rattle.demands.specs.Run.{AllTyped, Each, left, after, run, replied, answered, visited, VisitsOnce, Ready, Sent, Nothing, Key}
+use Rattle.demands.specs.Run.{AllTyped, Each, left, after, run, replied, answered, visited, VisitsOnce, Ready}
+use Rattle.demands.specs.Run.{Sent, Nothing, Key}
 use Rattle.demands.specs.Run.{sentIf, sent, routeOf, Reached, believed, wrongFirst, forwardsOf, summed, NotJoined}
 use Rattle.scan.specs.Scan.Outcome.{scan-visits-once, scan-visits-only}
 use Rattle.demands.specs.Run.Held.{step, through}
@@ -272,7 +273,8 @@ module _ (m : Memory) (ready : Ready m) where
           go true em true er = omega (
             arith,
             right-first client key
-                (subst (λ (c : ℕ). reply (early (m .file) (m .table) c) 0 ≡ 0) (eqb-true _ _ em) none) (eqb-true _ _ er),
+                (subst (λ (c : ℕ). reply (early (m .file) (m .table) c) 0 ≡ 0) (eqb-true _ _ em) none)
+                (eqb-true _ _ er),
           )
           go true em false er = omega (
             arith,
@@ -393,8 +395,11 @@ pub each-run : (Holding : Memory → Call → Type 0) → ((m : Memory) → Read
     → (m : Memory) → Ready m → (calls : List Call) → AllTyped calls → Each Holding m calls
 unfolding AllTyped Each
 each-run Holding of-call m ready [] typed = tt
-each-run Holding of-call m ready (call ∷ calls) typed =
-    (of-call m ready call, each-run Holding of-call (after m call) (ready-step m ready call (typed .0)) calls (typed .1))
+each-run Holding of-call m ready (call ∷ calls) typed = (
+  of-call m ready call,
+  each-run Holding of-call (after m call) (ready-step m ready call (typed .0)) calls
+      (typed .1),
+)
 
 -- an accepted scan
 pub scan-once : (m : Memory) (call : Call) → VisitsOnce m call

@@ -1,6 +1,6 @@
 -- From nothing: a file just made holds nothing, and a client joined is at (0, 0) with a sound record and stays so while
 -- others are joined; so once every client of the table is joined, the memory is ready.
-use Prim.Native.Nat.{ℕ, _≤_, _<_}
+use Prim.Native.Nat.{ℕ}
 use mathlib.Core.Path.{_≡_, refl, sym, ap, subst, _∙_}
 use mathlib.Core.Bool.{true}
 use mathlib.Core.List.{List, [], _∷_, map, List·Memᴰ, List·Memᴰ·not-nil, List·Memᴰ·cases-cons}
@@ -8,15 +8,14 @@ use mathlib.Core.Logic.{_⊎_, inl, inr, ⊎-elim}
 use native.Mathlib.Omega.{arith}
 use lib.ListN.{length}
 use Rattle.address.specs.Limits.{firstBuckets}
-use Rattle.address.specs.declared.Image.{Image}
-use Rattle.address.specs.Rules.{«at», NotAhead, buckets}
+use Rattle.address.specs.Rules.{«at», buckets}
 use Rattle.address.specs.Rules.Cases.{buckets-is}
 use Rattle.address.specs.Rules.Hash.{span-is}
 use Rattle.bucket.specs.Region.{Ride}
-use Rattle.client.specs.Table.{lengthSound, exists, imageOf, join}
+use Rattle.client.specs.Table.{lengthSound, exists, join}
 use Rattle.client.specs.Table.Start.{AtStart, same-exists, same-sound, table-whole, join-length, join-starts}
 use Rattle.client.specs.Table.Start.{join-stays}
-use Rattle.file.specs.File.{stateOf, create}
+use Rattle.file.specs.File.{create}
 use Rattle.file.specs.File.Create.{Fresh, create-fresh}
 use Rattle.ride.specs.Call.{Outcome}
 use Rattle.demands.specs.Run.{Memory, Call, Join, after, answered, run, Holds, Accepted, Kept, Finds}

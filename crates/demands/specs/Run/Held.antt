@@ -3,7 +3,7 @@
 -- where alone it can be.
 use Prim.Native.Nat.{ℕ, suc, _+_, _≤_, _<_}
 use mathlib.Core.Path.{_≡_, refl, sym, ap, subst, _∙_}
-use mathlib.Core.Bool.{Bool, true, false, not}
+use mathlib.Core.Bool.{Bool, true, false}
 use mathlib.Core.List.{List, [], _∷_, _++_, List·Memᴰ}
 use mathlib.Core.Logic.{_⊎_, inl, inr, ⊎-elim, by-cases, _↔_}
 use native.Mathlib.Decide.{ℕ-discrete}
@@ -25,7 +25,8 @@ use Rattle.bucket.specs.Region.Held.{slot-held, held-passes, held-whole, held-m
 use Rattle.bucket.specs.Region.Keep.{slot-most, kept-member, member-kept}
 use Rattle.file.specs.File.{mostOf, slotsOf, stateOf, bucketsOf, regionOf, fileSound, withRide, divided}
 use Rattle.file.specs.File.Judge.{Ranges, header-ranges, buckets-of, existing}
-use Rattle.file.specs.File.Keeping.{sound-header, sound-bucket, ride-kept, ride-held, others-held, ride-state, ride-bytes}
+use Rattle.file.specs.File.Keeping.{sound-header, sound-bucket, ride-kept, ride-held, others-held, ride-state}
+use Rattle.file.specs.File.Keeping.{ride-bytes}
 use Rattle.file.specs.File.Keeping.{split-kept, split-state, split-bytes, split-old, split-new, split-other}
 use Rattle.file.specs.File.Split.{split-ways}
 use Rattle.file.specs.File.Write.{Shown, shown, bucket-shown}
@@ -403,14 +404,19 @@ module _ (file table : List ℕ) (bytes : Bytes file) (sound : fileSound file �
         (λ h. held-there .0 (in-bucket payload .0 h), λ e. in-bucket payload .1 (held-there .1 e))
 
     found-there : (way rest : List ℕ)
-        → Finds key (record { answer = 0; block = block 0 way 0 (payloadHeld file key); table = rest; file = file }) (Holds file)
+        → Finds key (record { answer = 0; block = block 0 way 0 (payloadHeld file key); table = rest; file = file })
+        (Holds file)
     unfolding payloadIn with-payload
     found-there way rest = record {
       present = λ payload. (
         λ h. is-stored payload .1 (sym (payload-back 0 0 way (payloadHeld file key) payload-long) ∙ h .1),
         λ h. (refl, payload-back 0 0 way (payloadHeld file key) payload-long ∙ is-stored payload .0 h),
       );
-      absent = (λ e. absurd (omega (arith, e)), λ none. absurd (none (payloadHeld file key) (is-stored (payloadHeld file key) .1 refl)));
+      absent = (
+        λ e. absurd (omega (arith, e)),
+        λ none. absurd
+            (none (payloadHeld file key) (is-stored (payloadHeld file key) .1 refl)),
+      );
     }
 
   none-there : held file key ≡ false → (payload : List ℕ) → Holds file (with-payload payload) → ⊥

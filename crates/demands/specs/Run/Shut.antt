@@ -17,7 +17,6 @@ use Rattle.address.specs.Rules.Hash.{span-pos}
 use Rattle.layout.specs.Bytes.{Bytes, allZero}
 use Rattle.layout.specs.Bytes.Tests.{and-both}
 use Rattle.layout.specs.Replies.{reply}
-use Rattle.bucket.specs.Region.{rideAt, slotOf}
 use Rattle.client.specs.Table.{lengthSound, exists, imageOf, recordSound}
 use Rattle.client.specs.Table.Keeping.{sound-length, sound-record, client-passes}
 use Rattle.file.specs.File.{SplitOutcome, mostOf, stateOf, bucketsOf, headerSound, regionOf, fileSound}
@@ -27,7 +26,7 @@ use Rattle.file.specs.File.Region.{region-past}
 use Rattle.file.specs.File.Split.{split-whole, split-done}
 use Rattle.answer.specs.Answer.{block, noPayload, forwardsIn}
 use Rattle.answer.specs.Answer.Block.{none-long, forwards-block}
-use Rattle.route.specs.Way.{early, wayOf, ownOf}
+use Rattle.route.specs.Way.{early, wayOf}
 use Rattle.route.specs.Way.Open.{early-none}
 use Rattle.route.specs.Way.Route.{cut-none}
 use Rattle.ride.specs.Call.{overfull, search, insert}
