@@ -24,8 +24,8 @@ use Rattle.answer.specs.Answer.{block, noPayload}
 use Rattle.answer.specs.Answer.Block.{block-payload}
 
 -- a key that is held is in a slot of the bucket
-pub held-low : {file table : List ℕ} {client key : ℕ} {header : Header} {next : Image} {walk : Walk} {a place : ℕ}
-    → AtOwn file table client key header next walk a place → {count : ℕ} → count ≡ countOf (regionOf file a)
+pub held-low : {file table : List ℕ} {client key : ℕ} {header : Header} {image : Image} {walk : Walk} {a place : ℕ}
+    → AtOwn file table client key header image walk a place → {count : ℕ} → count ≡ countOf (regionOf file a)
     → ltb place count ≡ true → place < slotsOf file
 held-low {file} {a = a} {place = place} own {count} en h =
     omega (arith, ltb-true place count h, en, sound-few file a (own .good))
