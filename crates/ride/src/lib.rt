@@ -1,6 +1,7 @@
 // Insert and search: what they come to, and what is written.
 use file::Header;
-use route::Arrival;
+use route::End;
+use route::Opened;
 use route::Walk;
 ghost use mathlib.Core.Path.{_≡_};
 ghost use mathlib.Core.Bool.{true, cond};
@@ -36,21 +37,23 @@ fn finish_search(
     client: u64,
     key: u64,
     answer: &mut [u8],
-    own: Arrival,
+    opened: Opened,
+    end: End,
 ) -> u8
     requires { ⌜ (length (now answer) ≡ 24)
-        × AtOwn (now file) (now table) client key (own .header) (own .next) (own .walk) (own .bucket) (own .place) ⌝ }
+        × AtOwn (now file) (now table) client key (opened .header) (opened .image) (end .walk) (end .bucket)
+        (end .place) ⌝ }
     ensures { λ r. ⌜
         record { answer = r; block = now (answer .exit); table = now (table .exit); file = now (file .entry) }
         ≡ searched (now (file .entry)) (now (table .entry)) client key ⌝ }
 {
-    let header = own.header;
-    let walk = own.walk;
-    let count = file::held_in(file, header, own.bucket);
-    let found = own.place < count;
-    client::put_image(table, client, own.next);
+    let header = opened.header;
+    let walk = end.walk;
+    let count = file::held_in(file, header, end.bucket);
+    let found = end.place < count;
+    route::adjust(table, client, header.state, opened.image, walk);
     if found {
-        put_found(file, header, own.bucket, own.place, walk, answer);
+        put_found(file, header, end.bucket, end.place, walk, answer);
         return 0;
     }
     answer::put_block(answer, 1, walk, 0);
@@ -66,13 +69,19 @@ pub fn search(file: &[u8], table: &mut [u8], client: u64, key: u64, answer: &mut
     if answer.len() != 24 {
         return 14;
     }
-    let own = route::reach(file, table, client, key);
-    let refused = own.reply;
+    let opened = route::open(file, table, client);
+    let refused = opened.reply;
     if refused != 0 {
-        answer::put_block(answer, refused, own.walk, 0);
+        answer::put_block(answer, refused, route::no_walk(), 0);
         return refused;
     }
-    finish_search(file, table, client, key, answer, own)
+    let end = route::follow(file, table, client, opened, key);
+    let stopped = end.reply;
+    if stopped != 0 {
+        answer::put_block(answer, stopped, end.walk, 0);
+        return stopped;
+    }
+    finish_search(file, table, client, key, answer, opened, end)
 }
 
 // The flag of an insert: 1 if more rides are held than the capacity.
@@ -115,20 +124,22 @@ fn finish_insert(
     key: u64,
     payload: &[u8],
     answer: &mut [u8],
-    own: Arrival,
+    opened: Opened,
+    end: End,
 ) -> u8
     requires { ⌜ (length (now answer) ≡ 24) × (length (now payload) ≡ 14)
-        × AtOwn (now file) (now table) client key (own .header) (own .next) (own .walk) (own .bucket) (own .place) ⌝ }
+        × AtOwn (now file) (now table) client key (opened .header) (opened .image) (end .walk) (end .bucket)
+        (end .place) ⌝ }
     ensures { λ r. ⌜
         record { answer = r; block = now (answer .exit); table = now (table .exit); file = now (file .exit) }
         ≡ placed (now (file .entry)) (now (table .entry)) client key (now (payload .entry)) ⌝ }
 {
-    let header = own.header;
-    let walk = own.walk;
-    let count = file::held_in(file, header, own.bucket);
-    let held = own.place < count;
+    let header = opened.header;
+    let walk = end.walk;
+    let count = file::held_in(file, header, end.bucket);
+    let held = end.place < count;
     let full = header.slots as usize <= count;
-    client::put_image(table, client, own.next);
+    route::adjust(table, client, header.state, opened.image, walk);
     if held {
         answer::put_block(answer, 8, walk, 0);
         return 8;
@@ -137,7 +148,7 @@ fn finish_insert(
         answer::put_block(answer, 9, walk, 0);
         return 9;
     }
-    put_placed(file, header, own.bucket, count, key, payload, walk, answer);
+    put_placed(file, header, end.bucket, count, key, payload, walk, answer);
     0
 }
 
@@ -158,11 +169,17 @@ pub fn insert(
     if !fits {
         return 14;
     }
-    let own = route::reach(file, table, client, key);
-    let refused = own.reply;
+    let opened = route::open(file, table, client);
+    let refused = opened.reply;
     if refused != 0 {
-        answer::put_block(answer, refused, own.walk, 0);
+        answer::put_block(answer, refused, route::no_walk(), 0);
         return refused;
     }
-    finish_insert(file, table, client, key, payload, answer, own)
+    let end = route::follow(file, table, client, opened, key);
+    let stopped = end.reply;
+    if stopped != 0 {
+        answer::put_block(answer, stopped, end.walk, 0);
+        return stopped;
+    }
+    finish_insert(file, table, client, key, payload, answer, opened, end)
 }

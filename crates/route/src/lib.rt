@@ -4,16 +4,18 @@ use address::Image;
 use file::Header;
 ghost use mathlib.Core.Path.{_≡_};
 ghost use mathlib.Core.List.{_++_, _∷_, []};
-ghost use Prim.Native.Nat.{_+_, _≤_};
+ghost use Prim.Native.Nat.{_+_, _*_, _≤_, _<_};
+ghost use lib.ListN.{length};
 ghost use Rattle.address.specs.Limits.{firstBuckets, mostLevel, mostBuckets};
 ghost use Rattle.address.specs.Room.{ImageRoom};
 ghost use Rattle.address.specs.Rules.{Formed, NotAhead};
+ghost use Rattle.client.specs.Table.{withImage};
 ghost use Rattle.file.specs.File.{stateOf};
 ghost use Rattle.file.specs.File.Judge.{Known};
 ghost use Rattle.layout.specs.Replies.{reply};
 ghost use Rattle.route.specs.Way.{wayOf, early, noted, adjustedBy};
 ghost use Rattle.route.specs.Way.Open.{Opening};
-ghost use Rattle.route.specs.Way.Reach.{Followed, Reaching};
+ghost use Rattle.route.specs.Way.Reach.{OnWay, AtOwn};
 ghost use Rattle.route.specs.Way.Route.{Walked};
 
 // The buckets that a key has met, at most three.
@@ -33,7 +35,7 @@ pub struct End {
 }
 
 // No bucket yet.
-fn no_walk() -> Walk
+pub fn no_walk() -> Walk
     ensures { λ r. ⌜ r .count ≡ 0 ⌝ }
 {
     Walk {
@@ -164,77 +166,25 @@ pub fn open(file: &[u8], table: &[u8], client: u64) -> Opened
     }
 }
 
-// A client's image after its first bucket did or did not keep the key.
-fn adjust(state: Image, image: Image, walk: Walk) -> Image
-    requires { ⌜ ImageRoom firstBuckets state × (walk .first ≤ mostBuckets) ⌝ }
-    ensures { λ r. ⌜ r ≡ adjustedBy state image walk ⌝ }
+// Follows the key of an opened call to its own bucket: 7, or 0. The table is lent for what is promised of it.
+pub fn follow(file: &[u8], table: &[u8], client: u64, opened: Opened, key: u64) -> End
+    requires { ⌜ (opened .reply ≡ reply (early (now file) (now table) client) 0) × (opened .reply ≡ 0)
+        × Opening (now file) (now table) client (opened .header) (opened .image) ⌝ }
+    ensures { λ r. ⌜ OnWay (now (file .entry)) (now (table .entry)) client key (r .walk) (r .reply)
+        × (r .reply ≡ 0 → AtOwn (now (file .entry)) (now (table .entry)) client key (opened .header) (opened .image)
+        (r .walk) (r .bucket) (r .place)) ⌝ }
+{
+    walk_route(file, opened.header, opened.image, key)
+}
+
+// Writes a client's image after its first bucket did or did not keep the key.
+pub fn adjust(table: &mut [u8], client: u64, state: Image, image: Image, walk: Walk)
+    requires { ⌜ (8 * client + 8 ≤ length (now table)) × ImageRoom firstBuckets state × (walk .first ≤ mostBuckets)
+        × (adjustedBy state image walk .level < 256) × (adjustedBy state image walk .pointer < 65536) ⌝ }
+    ensures { λ _. ⌜ now (table .exit) ≡ withImage (now (table .entry)) client (adjustedBy state image walk) ⌝ }
 {
     let first = walk.first;
     let level = address::level_of(address::FIRST_BUCKETS, state, first);
-    address::adjusted(address::FIRST_BUCKETS, image, first, level, walk.count == 1)
-}
-
-// A key's way: its refusal and the buckets met by then; or 0 at the key's own bucket, with the slot that holds the key
-// there, or the count, and the client's next image.
-pub struct Arrival {
-    pub reply: u8,
-    pub header: Header,
-    pub next: Image,
-    pub bucket: u32,
-    pub place: usize,
-    pub walk: Walk,
-}
-
-// Follows a key's route from a client's image: 7, or 0.
-fn follow(file: &[u8], header: Header, image: Image, key: u64) -> Arrival
-    requires { ⌜ Known (now file) header × (image .level ≤ mostLevel) × Formed firstBuckets image
-        × NotAhead firstBuckets (stateOf (now file)) image ⌝ }
-    ensures { λ r. ⌜ Followed (now (file .entry)) key image (r .header) (r .next) (r .walk) (r .bucket) (r .place)
-        (r .reply) ⌝ }
-{
-    let end = walk_route(file, header, image, key);
-    let stopped = end.reply;
-    let walk = end.walk;
-    if stopped != 0 {
-        return Arrival {
-            reply: stopped,
-            header,
-            next: image,
-            bucket: end.bucket,
-            place: end.place,
-            walk,
-        };
-    }
-    let next = adjust(header.state, image, walk);
-    Arrival {
-        reply: 0,
-        header,
-        next,
-        bucket: end.bucket,
-        place: end.place,
-        walk,
-    }
-}
-
-// Opens a call and follows its key's route: 2 to 6, 7, or 0.
-pub fn reach(file: &[u8], table: &[u8], client: u64, key: u64) -> Arrival
-    ensures { λ r. ⌜ Reaching (now (file .entry)) (now (table .entry)) client key (r .header) (r .next) (r .walk)
-        (r .bucket) (r .place) (r .reply) ⌝ }
-{
-    let opened = open(file, table, client);
-    let refused = opened.reply;
-    let header = opened.header;
-    let image = opened.image;
-    if refused != 0 {
-        let walk = no_walk();
-        return Arrival {
-            reply: refused,
-            header,
-            next: image,
-            bucket: 0,
-            place: 0,
-            walk,
-        };
-    }
-    follow(file, header, image, key)
+    let next = address::adjusted(address::FIRST_BUCKETS, image, first, level, walk.count == 1);
+    client::put_image(table, client, next);
 }

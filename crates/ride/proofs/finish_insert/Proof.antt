@@ -11,8 +11,8 @@ held-in-requires c κs = search needs
 cast-full : tie.Need-cast-full
 cast-full c = search needs
 
-put-image-requires : tie.Need-put-image-requires
-put-image-requires c κs = search needs
+adjust-requires : tie.Need-adjust-requires
+adjust-requires c κs = search needs
 
 put-block-requires : tie.Need-put-block-requires
 put-block-requires c κs = search needs
@@ -65,7 +65,7 @@ finish-insert-spec =
     (tie.spec
     held-in-requires
     cast-full
-    put-image-requires
+    adjust-requires
     put-block-requires
     same-length
     same-length-2

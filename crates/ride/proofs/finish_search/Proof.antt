@@ -8,8 +8,8 @@ use Rattle.ride.proofs.finish_search.Tie as tie
 held-in-requires : tie.Need-held-in-requires
 held-in-requires c κs = search needs
 
-put-image-requires : tie.Need-put-image-requires
-put-image-requires c κs = search needs
+adjust-requires : tie.Need-adjust-requires
+adjust-requires c κs = search needs
 
 put-found-requires : tie.Need-put-found-requires
 put-found-requires c κs = search (needs, held-low)
@@ -40,7 +40,7 @@ finish-search-spec =
     tie.close
     (tie.spec
     held-in-requires
-    put-image-requires
+    adjust-requires
     put-found-requires
     same-length
     same-length-2

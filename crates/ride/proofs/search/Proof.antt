@@ -1,5 +1,6 @@
--- `ride::search` refuses a block of another length, passes on a refusal on its way, or finishes at the key's bucket.
-use Rattle.ride.specs.Call.Replied.{search-unfit, search-refused, search-reached}
+-- `ride::search` refuses a block of another length, refuses early or where its walk stopped, or finishes at the key's
+-- own bucket.
+use Rattle.ride.specs.Call.Replied.{search-unfit, search-refused, search-stopped, search-reached}
 use borrow.Author.Needs.{needs}
 use Rattle.ride.proofs.search.Statement.{statement}
 use Rattle.ride.proofs.search.Tie as tie
@@ -7,8 +8,11 @@ use Rattle.ride.proofs.search.Tie as tie
 returns : tie.Need-returns
 returns c = search search-unfit
 
-reach-requires : tie.Need-reach-requires
-reach-requires c κs = search needs
+open-requires : tie.Need-open-requires
+open-requires c κs = search needs
+
+no-walk-requires : tie.Need-no-walk-requires
+no-walk-requires c κs = search needs
 
 put-block-requires : tie.Need-put-block-requires
 put-block-requires c κs = search needs
@@ -22,8 +26,14 @@ same-length-2 c = search needs
 returns-2 : tie.Need-returns-2
 returns-2 c = search search-refused
 
-finish-search-requires : tie.Need-finish-search-requires
-finish-search-requires c κs = (search, c .before .before .before .reach .ensures .own (c .before .before .if2 .left))
+follow-requires : tie.Need-follow-requires
+follow-requires c κs =
+    let i = c .before in
+    let o = i .before .«open» .ensures in
+    (o .0, i .if2 .left, o .1 (i .if2 .left))
+
+put-block-requires-2 : tie.Need-put-block-requires-2
+put-block-requires-2 c κs = search needs
 
 same-length-3 : tie.Need-same-length-3
 same-length-3 c = search needs
@@ -32,19 +42,42 @@ same-length-4 : tie.Need-same-length-4
 same-length-4 c = search needs
 
 returns-3 : tie.Need-returns-3
-returns-3 c = search search-reached
+returns-3 c =
+    let i = c .before .before .before .before in
+    search-stopped _ _ _ _ _ (search) (i .before .follow .ensures .0) (i .if3 .taken)
+    (c .before .before .put-block2 .ensures)
+
+finish-search-requires : tie.Need-finish-search-requires
+finish-search-requires c κs =
+    let i = c .before .before in
+    (search, i .before .follow .ensures .1 (i .if3 .left))
+
+same-length-5 : tie.Need-same-length-5
+same-length-5 c = search needs
+
+same-length-6 : tie.Need-same-length-6
+same-length-6 c = search needs
+
+returns-4 : tie.Need-returns-4
+returns-4 c = search search-reached
 
 pub search-spec : {M : Type 1} → statement M
 search-spec =
     tie.close
     (tie.spec
     returns
-    reach-requires
+    open-requires
+    no-walk-requires
     put-block-requires
     same-length
     same-length-2
     returns-2
-    finish-search-requires
+    follow-requires
+    put-block-requires-2
     same-length-3
     same-length-4
-    returns-3)
+    returns-3
+    finish-search-requires
+    same-length-5
+    same-length-6
+    returns-4)

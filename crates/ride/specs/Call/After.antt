@@ -1,5 +1,5 @@
 -- At the key's own bucket: the payload in its slot, and the table with the image after the call.
-use Prim.Native.Nat.{ℕ, _+_, _*_, _-_, _^_, _≤_, _<_}
+use Prim.Native.Nat.{ℕ, _+_, _*_, _-_, _≤_, _<_}
 use mathlib.Core.Path.{_≡_, sym, ap, _∙_}
 use mathlib.Core.Bool.{true}
 use mathlib.Core.List.{List}
@@ -14,7 +14,7 @@ use Rattle.layout.specs.Bytes.Edit.{part-is, part-part}
 use Rattle.bucket.specs.Region.{slotAt, countOf, rideAt}
 use Rattle.bucket.specs.Region.Judge.{ride-payload}
 use Rattle.file.specs.File.{mostOf, slotsOf, bucketsOf, startOf, regionOf}
-use Rattle.file.specs.File.Region.{region-is, region-fits, place-room, sound-few}
+use Rattle.file.specs.File.Region.{region-is, region-fits, sound-few}
 use Rattle.file.specs.File.Judge.{Known}
 use Rattle.file.specs.declared.Header.{Header}
 use Rattle.route.specs.declared.Walk.{Walk}
@@ -24,8 +24,8 @@ use Rattle.answer.specs.Answer.{block, noPayload}
 use Rattle.answer.specs.Answer.Block.{block-payload}
 
 -- a key that is held is in a slot of the bucket
-pub held-low : {file table : List ℕ} {client key : ℕ} {header : Header} {next : Image} {walk : Walk} {a place : ℕ}
-    → AtOwn file table client key header next walk a place → {count : ℕ} → count ≡ countOf (regionOf file a)
+pub held-low : {file table : List ℕ} {client key : ℕ} {header : Header} {image : Image} {walk : Walk} {a place : ℕ}
+    → AtOwn file table client key header image walk a place → {count : ℕ} → count ≡ countOf (regionOf file a)
     → ltb place count ≡ true → place < slotsOf file
 held-low {file} {a = a} {place = place} own {count} en h =
     omega (arith, ltb-true place count h, en, sound-few file a (own .good))
@@ -42,18 +42,10 @@ module _ {file : List ℕ} {header : Header} (seen : Known file header) {a at k 
   pub payload-within : at + (18 + 24 * k) + 14 ≤ length file
   payload-within = omega (arith, region-fits file (seen .ranges) a exists, here)
 
-  pub payload-room : at + (18 + 24 * k) + 14 < 2 ^ 64
-  payload-room = omega (
-    arith,
-    payload-within,
-    seen .ranges .figured .whole,
-    place-room (slotsOf file) (mostOf file) (seen .ranges .figured .few-slots) (seen .ranges .figured .few-buckets),
-  )
-
   wide : at + (18 + 24 * k) + 14 - (at + (18 + 24 * k)) ≡ 14
   wide = omega arith
 
-  pub payload-long : length (take (at + (18 + 24 * k) + 14 - (at + (18 + 24 * k))) (drop (at + (18 + 24 * k)) file))
+  payload-long : length (take (at + (18 + 24 * k) + 14 - (at + (18 + 24 * k))) (drop (at + (18 + 24 * k)) file))
       ≡ 14
   payload-long = ap (λ (n : ℕ). length (take n (drop (at + (18 + 24 * k)) file))) wide
       ∙ length-take-le 14 (drop (at + (18 + 24 * k)) file)

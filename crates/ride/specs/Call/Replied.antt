@@ -16,9 +16,9 @@ use Rattle.file.specs.File.{capacityOf, regionOf, withRide}
 use Rattle.file.specs.declared.Header.{Header}
 use Rattle.answer.specs.Answer.{block, noPayload}
 use Rattle.route.specs.declared.Walk.{Walk}
-use Rattle.route.specs.Way.{onWay, wayOf, ownOf, held, full, noted}
+use Rattle.route.specs.Way.{early, onWay, wayOf, ownOf, held, full, noted, adjustedBy}
 use Rattle.route.specs.Way.Own.{held-is, full-is}
-use Rattle.route.specs.Way.Reach.{AtOwn, Reaching}
+use Rattle.route.specs.Way.Reach.{OnWay, AtOwn, way-refused}
 use Rattle.ride.specs.Call.{Outcome, adjustedTable, routed, searched, search, placed, insert, inserted, overfull}
 
 -- ---- up to the key's own bucket
@@ -29,8 +29,7 @@ module _ (file table : List ℕ) (client key : ℕ) (answer : List ℕ) (reached
   unfolding routed
   routed-block = refl
 
-  module _ {header : Header} {next : Image} {walk : Walk} {a place r : ℕ}
-      (way : Reaching file table client key header next walk a place r) where
+  module _ {walk : Walk} {r : ℕ} (way : OnWay file table client key walk r) where
     pub routed-refused : (r ≡ 0 → ⊥) → {left : List ℕ} → left ≡ block r (noted walk) 0 noPayload
         → record { answer = r; block = left; table = table; file = file }
         ≡ routed true file table client key answer reached
@@ -48,7 +47,7 @@ module _ (file table : List ℕ) (client key : ℕ) (answer : List ℕ) (reached
     unfolding routed
     routed-reached none eo = rw (eq-eqb (reply (onWay file table client key) 0) 0 (sym (way .is) ∙ none)) eo
 
--- whose outcome it is
+-- a search's ways out, test by test
 module _ (file table : List ℕ) (client key : ℕ) (answer : List ℕ) where
   search-is : (fits : Bool) → eqb (length answer) 24 ≡ fits
       → routed fits file table client key answer (searched file table client key) ≡ search file table client key answer
@@ -59,22 +58,29 @@ module _ (file table : List ℕ) (client key : ℕ) (answer : List ℕ) where
       ≡ search file table client key answer
   search-unfit h = routed-block file table client key answer _ ∙ search-is false (ne-eqb (length answer) 24 h)
 
-  module _ (long : length answer ≡ 24) {header : Header} {next : Image} {walk : Walk} {a place r : ℕ}
-      (way : Reaching file table client key header next walk a place r) where
-    pub search-refused : (r ≡ 0 → ⊥) → {left : List ℕ} → left ≡ block r (noted walk) 0 noPayload
+  module _ (long : length answer ≡ 24) {walk : Walk} {r : ℕ} (way : OnWay file table client key walk r) where
+    fit-search : routed true file table client key answer (searched file table client key)
+        ≡ search file table client key answer
+    fit-search = search-is true (eq-eqb (length answer) 24 long)
+
+    pub search-stopped : {left : List ℕ} → (r ≡ 0 → ⊥) → left ≡ block r (noted walk) 0 noPayload
         → record { answer = r; block = left; table = table; file = file } ≡ search file table client key answer
-    search-refused some el = routed-refused file table client key answer _ way some el
-        ∙ search-is true (eq-eqb (length answer) 24 long)
+    search-stopped some el = routed-refused file table client key answer _ way some el ∙ fit-search
 
     pub search-reached : r ≡ 0 → {o : Outcome} → o ≡ searched file table client key
         → o ≡ search file table client key answer
-    search-reached none eo = routed-reached file table client key answer _ way none eo
-        ∙ search-is true (eq-eqb (length answer) 24 long)
+    search-reached none eo = routed-reached file table client key answer _ way none eo ∙ fit-search
+
+  pub search-refused : length answer ≡ 24 → {r : ℕ} → r ≡ reply (early file table client) 0 → (walk : Walk)
+      → walk .count ≡ 0 → {left : List ℕ} → (r ≡ 0 → ⊥) → left ≡ block r (noted walk) 0 noPayload
+      → record { answer = r; block = left; table = table; file = file } ≡ search file table client key answer
+  search-refused long er walk zero some el = search-stopped long (way-refused er {walk = walk} some zero) some el
 
 pub search-single : (file table : List ℕ) (client key : ℕ) (answer : List ℕ) (o p : Outcome)
     → o ≡ search file table client key answer → p ≡ search file table client key answer → o ≡ p
 search-single file table client key answer o p eo ep = eo ∙ sym ep
 
+-- an insert's
 module _ (file table : List ℕ) (client key : ℕ) (payload answer : List ℕ) where
   insert-is : (fits : Bool) → (eqb (length answer) 24 && eqb (length payload) 14) ≡ fits
       → routed fits file table client key answer (placed file table client key payload)
@@ -88,17 +94,25 @@ module _ (file table : List ℕ) (client key : ℕ) (payload answer : List ℕ) 
       ≡ insert file table client key payload answer
   insert-unfit h = routed-block file table client key answer _ ∙ insert-is false (not-true _ h)
 
-  module _ (fits : not (eqb (length answer) 24 && eqb (length payload) 14) ≡ false) {header : Header} {next : Image}
-      {walk : Walk} {a place r : ℕ} (way : Reaching file table client key header next walk a place r) where
-    pub insert-refused : (r ≡ 0 → ⊥) → {left : List ℕ} → left ≡ block r (noted walk) 0 noPayload
+  module _ (fits : not (eqb (length answer) 24 && eqb (length payload) 14) ≡ false) {walk : Walk} {r : ℕ}
+      (way : OnWay file table client key walk r) where
+    fit-insert : routed true file table client key answer (placed file table client key payload)
+        ≡ insert file table client key payload answer
+    fit-insert = insert-is true (not-false _ fits)
+
+    pub insert-stopped : {left : List ℕ} → (r ≡ 0 → ⊥) → left ≡ block r (noted walk) 0 noPayload
         → record { answer = r; block = left; table = table; file = file } ≡ insert file table client key payload answer
-    insert-refused some el = routed-refused file table client key answer _ way some el
-        ∙ insert-is true (not-false _ fits)
+    insert-stopped some el = routed-refused file table client key answer _ way some el ∙ fit-insert
 
     pub insert-reached : r ≡ 0 → {o : Outcome} → o ≡ placed file table client key payload
         → o ≡ insert file table client key payload answer
-    insert-reached none eo = routed-reached file table client key answer _ way none eo
-        ∙ insert-is true (not-false _ fits)
+    insert-reached none eo = routed-reached file table client key answer _ way none eo ∙ fit-insert
+
+  pub insert-refused : not (eqb (length answer) 24 && eqb (length payload) 14) ≡ false → {r : ℕ}
+      → r ≡ reply (early file table client) 0 → (walk : Walk) → walk .count ≡ 0 → {left : List ℕ} → (r ≡ 0 → ⊥)
+      → left ≡ block r (noted walk) 0 noPayload
+      → record { answer = r; block = left; table = table; file = file } ≡ insert file table client key payload answer
+  insert-refused fits er walk zero some el = insert-stopped fits (way-refused er {walk = walk} some zero) some el
 
 pub insert-single : (file table : List ℕ) (client key : ℕ) (payload answer : List ℕ) (o p : Outcome)
     → o ≡ insert file table client key payload answer → p ≡ insert file table client key payload answer → o ≡ p
@@ -181,9 +195,9 @@ module _ (file table : List ℕ) (client key : ℕ) where
     placed-done h l = rw (h, l)
 
 -- from what was found there and what was written
-module _ {file table : List ℕ} {client key : ℕ} {header : Header} {next : Image} {walk : Walk} {a place : ℕ}
-    (own : AtOwn file table client key header next walk a place) {after : List ℕ}
-    (et : after ≡ withImage table client next) {count : ℕ}
+module _ {file table : List ℕ} {client key : ℕ} {header : Header} {image : Image} {walk : Walk} {a place : ℕ}
+    (own : AtOwn file table client key header image walk a place) {after : List ℕ}
+    (et : after ≡ withImage table client (adjustedBy (header .state) image walk)) {count : ℕ}
     (en : count ≡ countOf (regionOf file a)) where
   adjusted-is : after ≡ adjustedTable file table client key
   unfolding adjustedTable

@@ -1,4 +1,5 @@
--- `route::adjust` is the image that the first bucket's number and level give.
+-- `route::adjust` writes the image that the first bucket's number and level give.
+use Rattle.route.specs.Way.Reach.{next-low, next-near, next-written}
 use Rattle.route.specs.Way.Route.{level-room}
 use borrow.Author.Needs.{needs}
 use Rattle.route.proofs.adjust.Statement.{statement}
@@ -10,8 +11,15 @@ level-of-requires c κs = search needs
 adjusted-requires : tie.Need-adjusted-requires
 adjusted-requires c κs = (search level-room, search needs)
 
+put-image-requires : tie.Need-put-image-requires
+put-image-requires c κs = (search, search next-low, search next-near)
+
+same-length : tie.Need-same-length
+same-length c = search needs
+
 returns : tie.Need-returns
-returns c = cc
+returns c = search next-written
 
 pub adjust-spec : {M : Type 1} → statement M
-adjust-spec = tie.close (tie.spec level-of-requires adjusted-requires returns)
+adjust-spec =
+    tie.close (tie.spec level-of-requires adjusted-requires put-image-requires same-length returns)

@@ -1,6 +1,6 @@
 -- The refusals before any route, by their cases, and what is known of a call that passes them.
 use Prim.Native.Nat.{ℕ, _+_, _*_, _≤_}
-use mathlib.Core.Path.{_≡_, refl, sym, ap, ap₂, _∙_}
+use mathlib.Core.Path.{_≡_, sym, ap, ap₂, _∙_}
 use mathlib.Core.Bool.{Bool, true, false, cond, not}
 use mathlib.Core.List.{List}
 use native.Mathlib.Omega.{arith}
@@ -11,8 +11,7 @@ use Rattle.address.specs.Limits.{firstBuckets, mostLevel}
 use Rattle.address.specs.declared.Image.{Image}
 use Rattle.address.specs.Room.{ImageRoom}
 use Rattle.address.specs.Rules.{Formed, NotAhead, buckets}
-use Rattle.layout.specs.Replies.{Numbers, reply, reply-none, reply-is, reply-append, reply-among, reply-else}
-use Rattle.layout.specs.Replies.{numbers-append}
+use Rattle.layout.specs.Replies.{Numbers, reply, reply-none, reply-is, reply-append, reply-else, numbers-append}
 use Rattle.client.specs.Table.{imageOf, recordSound, tableRefusals, callerRefusals}
 use Rattle.client.specs.Table.Caller.{Called, caller-numbers, caller-numbered, caller-passes, caller-passed}
 use Rattle.client.specs.Table.Refusals.{passes-append, passes-split, passes-on, passes-back, refused-on}
@@ -43,19 +42,11 @@ module _ (file table : List ℕ) (client : ℕ) where
 
   pub early-numbered : Numbers (λ n. n ≡ 0 → ⊥) (early file table client)
   early-numbered = early-numbers (λ n. n ≡ 0 → ⊥) (λ e. omega (arith, e)) (λ e. omega (arith, e))
-      (λ e. omega (arith, e))
-      (λ e. omega (arith, e)) (λ e. omega (arith, e))
+      (λ e. omega (arith, e)) (λ e. omega (arith, e)) (λ e. omega (arith, e))
 
   pub early-else : (done : ℕ) → reply (early file table client) done
       ≡ cond (eqb (reply (early file table client) 0) 0) done (reply (early file table client) 0)
   early-else = reply-else (early file table client) early-numbered
-
-  pub early-range : (reply (early file table client) 0 ≡ 0 → ⊥)
-      → (2 ≤ reply (early file table client) 0) × (reply (early file table client) 0 ≤ 6)
-  early-range some = reply-among (λ n. (n ≡ 0 → ⊥) → (2 ≤ n) × (n ≤ 6)) (early file table client)
-      (early-numbers (λ n. (n ≡ 0 → ⊥) → (2 ≤ n) × (n ≤ 6)) (λ e. (omega arith, omega arith))
-      (λ e. (omega arith, omega arith)) (λ e. (omega arith, omega arith))
-      (λ e. (omega arith, omega arith)) (λ e. (omega arith, omega arith))) 0 (λ e. absurd (e refl)) some
 
   -- a call that is not refused has a sound record and a sound header, and its image is not ahead
   pub early-none : reply (tableRefusals table client) 0 ≡ 0 → recordSound table client ≡ true → headerSound file ≡ true

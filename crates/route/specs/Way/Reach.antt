@@ -19,7 +19,7 @@ use Rattle.address.specs.Rules.Adjust.{imageAfter-is, after-formed, after-behin
 use Rattle.layout.specs.Replies.{Numbers, Refusal, refuse, reply, reply-none, reply-is, reply-append, reply-among}
 use Rattle.layout.specs.Replies.{reply-else, numbers-append}
 use Rattle.bucket.specs.Region.{slotOf, every}
-use Rattle.client.specs.Table.{imageOf}
+use Rattle.client.specs.Table.{imageOf, withImage}
 use Rattle.client.specs.Table.Refusals.{passes-split, passes-on, passes-back, refused-on}
 use Rattle.file.specs.File.{mostOf, stateOf, bucketsOf, regionOf, bucketSoundIn}
 use Rattle.file.specs.File.Judge.{Known, state-small, buckets-of}
@@ -192,38 +192,17 @@ module _ (file : List ℕ) (header : Header) (seen : Known file header) (image :
     buckets-is firstBuckets (stateOf file),
   )
 
--- ---- what is known there
+-- ---- a call on its way, as far as it is known
 
--- a route followed: what the walk tells, and at the key's own bucket the client's next image, which is small
-pub record Followed (file : List ℕ) (key : ℕ) (image : Image) (header : Header) (next : Image) (walk : Walk)
-    (a place r : ℕ) : Type 0 where
-  pub walked : Walked file key (wayOf file image key) walk a place r
-  pub known : Known file header
-  pub after : r ≡ 0 → next ≡ imageAfter firstBuckets (stateOf file) image key
-
--- the following function's way
-module _ {file : List ℕ} {header : Header} (seen : Known file header) (image : Image)
-    {key : ℕ} {walk : Walk} {a place s : ℕ} (walked : Walked file key (wayOf file image key) walk a place s) where
-  pub follow-stopped : {next : Image} → (s ≡ 0 → ⊥) → Followed file key image header next walk a place s
-  follow-stopped some = record { walked = walked; known = seen; after = λ e. absurd (some e) }
-
-  module _ (none : s ≡ 0) (formed : Formed firstBuckets image)
-      (behind : NotAhead firstBuckets (stateOf file) image) where
-    pub follow-first : walk .first ≤ mostBuckets
-    follow-first = first-small file header seen image formed behind key walk (walked .few) a place (walked .ended none)
-
-    pub follow-own : {next : Image} → next ≡ adjustedBy (header .state) image walk
-        → Followed file key image header next walk a place 0
-    follow-own en = record {
-      walked = rw none at walked;
-      known = seen;
-      after = λ _. en ∙ after-is file header seen image formed behind key walk (walked .few) a place
-          (walked .ended none) (level firstBuckets (header .state) (walk .first)) refl;
-    }
+-- its reply and the buckets met are those of a refusal, or none is due
+pub record OnWay (file table : List ℕ) (client key : ℕ) (walk : Walk) (r : ℕ) : Type 0 where
+  pub few : walk .count ≤ 3
+  pub is : r ≡ reply (onWay file table client key) 0
+  pub met : noted walk ≡ metOn file table client key
 
 -- at the key's own bucket: it exists and is sound, the route noted is the client's, the key's slot is known, and the
--- client's next image is small
-pub record AtOwn (file table : List ℕ) (client key : ℕ) (header : Header) (next : Image) (walk : Walk) (a place : ℕ)
+-- image to be written is small
+pub record AtOwn (file table : List ℕ) (client key : ℕ) (header : Header) (image : Image) (walk : Walk) (a place : ℕ)
     : Type 0 where
   pub known : Known file header
   pub there : 8 * client + 8 ≤ length table
@@ -233,70 +212,75 @@ pub record AtOwn (file table : List ℕ) (client key : ℕ) (header : Header) (n
   pub way : noted walk ≡ wayOf file (imageOf table client) key
   pub own : a ≡ ownOf file key
   pub slot : place ≡ slotOf (regionOf file a) key
-  pub low : next .level < 256
-  pub near : next .pointer < 65536
-  pub after : next ≡ imageAfter firstBuckets (stateOf file) (imageOf table client) key
+  pub first : walk .first ≤ mostBuckets
+  pub low : adjustedBy (header .state) image walk .level < 256
+  pub near : adjustedBy (header .state) image walk .pointer < 65536
+  pub after : adjustedBy (header .state) image walk ≡ imageAfter firstBuckets (stateOf file) (imageOf table client) key
 
--- a call on its way: its reply by then, the buckets met, and what is known where the reply is 0
-pub record Reaching (file table : List ℕ) (client key : ℕ) (header : Header) (next : Image) (walk : Walk)
-    (a place r : ℕ) : Type 0 where
-  pub few : walk .count ≤ 3
-  pub is : r ≡ reply (onWay file table client key) 0
-  pub met : noted walk ≡ metOn file table client key
-  pub own : r ≡ 0 → AtOwn file table client key header next walk a place
-
--- the reaching function's way
-module _ {file table : List ℕ} {client key r : ℕ} (er : r ≡ reply (early file table client) 0) where
-  pub reach-refused : {header : Header} {next : Image} {walk : Walk} {a place : ℕ} → (r ≡ 0 → ⊥) → walk .count ≡ 0
-      → Reaching file table client key header next walk a place r
-  reach-refused {walk = walk} some none = record {
+module _ {file table : List ℕ} {client r : ℕ} (er : r ≡ reply (early file table client) 0) where
+  -- refused before any route
+  pub way-refused : {key : ℕ} {walk : Walk} → (r ≡ 0 → ⊥) → walk .count ≡ 0 → OnWay file table client key walk r
+  way-refused {key} {walk} some none = record {
     few = omega arith;
     is = sym (way-reply file table client key
         ∙ refused-on (early file table client) (early-numbered file table client) r (sym er) some _);
     met = noted-none walk none ∙ sym (met-none file table client key (λ e. some (er ∙ e)));
-    own = λ e. absurd (some e);
   }
 
-  module _ (none : r ≡ 0) {started : Header} {image : Image} (passed : r ≡ 0 → Opening file table client started image)
-      {header : Header} {next : Image} {walk : Walk} {a place s : ℕ}
-      (followed : Followed file key image header next walk a place s) where
-    o : Opening file table client started image
-    o = passed none
+  -- or walked, to an unsound bucket or to the key's own
+  module _ (none : r ≡ 0) {header : Header} {image : Image} (o : Opening file table client header image)
+      {key : ℕ} {walk : Walk} {a place s : ℕ} (walked : Walked file key (wayOf file image key) walk a place s) where
+    pub way-walked : OnWay file table client key walk s
+    way-walked = record {
+      few = walked .few;
+      is = walked .is ∙ sym (way-reply file table client key
+          ∙ passes-on (early file table client)
+          (passes-back (early file table client) (early-numbered file table client) (sym er ∙ none)) _
+          ∙ ap (λ (i : Image). cond (not (every (bucketSoundIn file) (wayOf file i key))) 7 0) (sym (o .is)));
+      met = walked .met ∙ ap (λ (i : Image). cut (bucketSoundIn file) (wayOf file i key)) (o .is)
+          ∙ sym (met-route file table client key (sym er ∙ none));
+    }
 
-    walked : Walked file key (wayOf file image key) walk a place s
-    walked = followed .walked
+    pub way-own : s ≡ 0 → AtOwn file table client key header image walk a place
+    way-own kept = record {
+      known = o .known;
+      there = o .there;
+      exists = ended .there;
+      good = ended .good;
+      few = walked .few;
+      way = ended .whole ∙ ap (λ (i : Image). wayOf file i key) (o .is);
+      own = ended .own;
+      slot = ended .slot;
+      first = first-small file header (o .known) image (o .formed) (o .behind) key walk (walked .few) a place ended;
+      low = omega (arith, ap (λ (i : Image). i .level) after, small);
+      near = omega (arith, ap (λ (i : Image). i .pointer) after, small);
+      after = after ∙ ap (λ (i : Image). imageAfter firstBuckets (stateOf file) i key) (o .is);
+    }
+      where
+        ended : Ended file key (wayOf file image key) walk a place
+        ended = walked .ended kept
 
-    replied : s ≡ reply (onWay file table client key) 0
-    replied = walked .is ∙ sym (way-reply file table client key
-        ∙ passes-on (early file table client)
-        (passes-back (early file table client) (early-numbered file table client) (sym er ∙ none)) _
-        ∙ ap (λ (i : Image). cond (not (every (bucketSoundIn file) (wayOf file i key))) 7 0) (sym (o .is)))
+        after : adjustedBy (header .state) image walk ≡ imageAfter firstBuckets (stateOf file) image key
+        after = after-is file header (o .known) image (o .formed) (o .behind) key walk (walked .few) a place ended
+            (level firstBuckets (header .state) (walk .first)) refl
 
-    met : noted walk ≡ metOn file table client key
-    met = walked .met ∙ ap (λ (i : Image). cut (bucketSoundIn file) (wayOf file i key)) (o .is)
-        ∙ sym (met-route file table client key (sym er ∙ none))
+        small : (imageAfter firstBuckets (stateOf file) image key .level ≤ mostLevel)
+            × (imageAfter firstBuckets (stateOf file) image key .pointer ≤ mostBuckets)
+        small = after-small file (o .known) image (o .formed) (o .behind) key
 
-    small : (imageAfter firstBuckets (stateOf file) image key .level ≤ mostLevel)
-        × (imageAfter firstBuckets (stateOf file) image key .pointer ≤ mostBuckets)
-    small = after-small file (o .known) image (o .formed) (o .behind) key
+-- ---- the image that is written
 
-    at-own : s ≡ 0 → AtOwn file table client key header next walk a place
-    at-own kept =
-        let ended = walked .ended kept in
-        let after = followed .after kept in
-        record {
-          known = followed .known;
-          there = o .there;
-          exists = ended .there;
-          good = ended .good;
-          few = walked .few;
-          way = ended .whole ∙ ap (λ (i : Image). wayOf file i key) (o .is);
-          own = ended .own;
-          slot = ended .slot;
-          low = omega (arith, ap (λ (i : Image). i .level) after, small);
-          near = omega (arith, ap (λ (i : Image). i .pointer) after, small);
-          after = after ∙ ap (λ (i : Image). imageAfter firstBuckets (stateOf file) i key) (o .is);
-        }
+module _ (state image : Image) (walk : Walk) {l : ℕ} (el : l ≡ level firstBuckets state (walk .first)) {next : Image}
+    (en : next ≡ adjusted firstBuckets image (walk .first) l (eqb (walk .count) 1)) where
+  next-is : next ≡ adjustedBy state image walk
+  next-is = en ∙ ap (λ (x : ℕ). adjusted firstBuckets image (walk .first) x (eqb (walk .count) 1)) el
 
-    pub reach-followed : Reaching file table client key header next walk a place s
-    reach-followed = record { few = walked .few; is = replied; met = met; own = at-own }
+  pub next-low : adjustedBy state image walk .level < 256 → next .level < 256
+  next-low h = omega (arith, ap (λ (i : Image). i .level) next-is, h)
+
+  pub next-near : adjustedBy state image walk .pointer < 65536 → next .pointer < 65536
+  next-near h = omega (arith, ap (λ (i : Image). i .pointer) next-is, h)
+
+  pub next-written : (table : List ℕ) (client : ℕ) {after : List ℕ} → after ≡ withImage table client next
+      → after ≡ withImage table client (adjustedBy state image walk)
+  next-written table client e = e ∙ ap (withImage table client) next-is
