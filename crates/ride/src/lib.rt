@@ -50,8 +50,8 @@ fn finish_search(
     let header = opened.header;
     let walk = end.walk;
     let count = file::held_in(file, header, end.bucket);
-    let found = end.place < count;
     route::adjust(table, client, header.state, opened.image, walk);
+    let found = end.place < count;
     if found {
         put_found(file, header, end.bucket, end.place, walk, answer);
         return 0;
