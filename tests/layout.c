@@ -151,8 +151,11 @@ static void judge_answer(void)
     expect("payload", memcmp(answer + LHSTAR_ANSWER_PAYLOAD, payload, sizeof payload) != 0, 0);
     expect("search", lhstar_search(file, sizeof file, table, sizeof table, CLIENT, 0,
                                    answer, sizeof answer), LHSTAR_ABSENT);
-    expect("reply", answer[LHSTAR_ANSWER_REPLY], LHSTAR_ABSENT);
     expect_zeros("no payload", answer + LHSTAR_ANSWER_PAYLOAD, answer + LHSTAR_ANSWER_BYTES);
+    expect("insert", lhstar_insert(file, sizeof file, table, sizeof table, CLIENT, second_key,
+                                   payload, sizeof payload, answer, sizeof answer),
+           LHSTAR_KEY_HELD);
+    expect("reply", answer[LHSTAR_ANSWER_REPLY], LHSTAR_KEY_HELD);
 }
 
 static void judge_scan(void)
