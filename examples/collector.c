@@ -58,16 +58,20 @@ static unsigned number_at(const uint8_t *bytes)
     return bytes[0] | (unsigned)bytes[1] << 8;
 }
 
-static uint32_t wide_at(const uint8_t *bytes)
+static uint64_t key_at(const uint8_t *bytes)
 {
-    return number_at(bytes) | (uint32_t)number_at(bytes + 2) << 16;
+    uint64_t key = 0;
+    int k;
+    for (k = LHSTAR_KEY_BYTES - 1; k >= 0; k--)
+        key = key << 8 | bytes[k];
+    return key;
 }
 
-static void write_wide(uint8_t *bytes, uint32_t number)
+static void write_key(uint8_t *bytes, uint64_t key)
 {
     int k;
-    for (k = 0; k < 4; k++)
-        bytes[k] = (uint8_t)(number >> 8 * k);
+    for (k = 0; k < LHSTAR_KEY_BYTES; k++)
+        bytes[k] = (uint8_t)(key >> 8 * k);
 }
 
 static uint64_t key_of(struct ride ride)
@@ -75,12 +79,19 @@ static uint64_t key_of(struct ride ride)
     return (uint64_t)ride.lift << 32 | ride.number;
 }
 
-/* The library gives a payload no meaning; this collector writes ride, lift and a word. */
+static struct ride ride_of(uint64_t key)
+{
+    struct ride ride;
+    ride.lift = (uint32_t)(key >> 32);
+    ride.number = (uint32_t)key;
+    return ride;
+}
+
+/* The library gives a payload no meaning; this collector writes the key and a word. */
 static void write_payload(uint8_t payload[LHSTAR_PAYLOAD_BYTES], struct ride ride)
 {
-    write_wide(payload, ride.number);
-    write_wide(payload + 4, ride.lift);
-    memcpy(payload + 8, "uphill", 6);
+    write_key(payload, key_of(ride));
+    memcpy(payload + LHSTAR_KEY_BYTES, "uphill", LHSTAR_PAYLOAD_BYTES - LHSTAR_KEY_BYTES);
 }
 
 /* Printing. */
@@ -105,7 +116,8 @@ static void print_route(const uint8_t *answer)
     if (length == 0)
         printf("-");
     for (k = 0; k < length && k < LHSTAR_ROUTE_MOST; k++)
-        printf("%s%u", k > 0 ? ">" : "", number_at(answer + LHSTAR_ANSWER_ROUTE + 2 * k));
+        printf("%s%u", k > 0 ? ">" : "",
+               number_at(answer + LHSTAR_ANSWER_ROUTE + LHSTAR_NUMBER_BYTES * k));
 }
 
 static void print_image(unsigned client)
@@ -116,7 +128,8 @@ static void print_image(unsigned client)
         return;
     }
     record = table + client * LHSTAR_CLIENT_BYTES;
-    printf("(%u,%u)", (unsigned)record[2], number_at(record + 4));
+    printf("(%u,%u)", (unsigned)record[LHSTAR_CLIENT_LEVEL],
+           number_at(record + LHSTAR_CLIENT_POINTER));
 }
 
 static void print_call(const struct call *call, unsigned reply, const uint8_t *answer,
@@ -227,14 +240,10 @@ static void check(size_t file_length, unsigned expected)
     expect("check", answer.reply, expected);
 }
 
-/* A slot's key stands after its mark of two bytes: first the ride, then the lift. */
 static void print_slot(const uint8_t *slot)
 {
-    struct ride ride;
-    ride.number = wide_at(slot + 2);
-    ride.lift = wide_at(slot + 6);
     printf("  ");
-    print_ride(ride);
+    print_ride(ride_of(key_at(slot + LHSTAR_SLOT_KEY)));
     puts("");
 }
 
@@ -343,7 +352,7 @@ static void refuse_clients(void)
     insert(STRANGER, ride_14, LHSTAR_NO_CLIENT);
     search(STRANGER, ride_5, LHSTAR_NO_CLIENT);
     puts("client record without its mark, then joined again");
-    table[KIOSK * LHSTAR_CLIENT_BYTES] = 0;
+    table[KIOSK * LHSTAR_CLIENT_BYTES + LHSTAR_CLIENT_MARK] = 0;
     search(KIOSK, ride_5, LHSTAR_CLIENT_UNSOUND);
     join(KIOSK, LHSTAR_DONE);
 }
@@ -362,7 +371,8 @@ static void refuse_rides(void)
 /* An unsound bucket ends the route, and the image stays as it was. */
 static void refuse_bucket(void)
 {
-    uint8_t *mark = file + LHSTAR_HEADER_BYTES + 2 * LHSTAR_REGION_BYTES(SLOTS);
+    uint8_t *region = file + LHSTAR_HEADER_BYTES + 2 * LHSTAR_REGION_BYTES(SLOTS);
+    uint8_t *mark = region + LHSTAR_HEAD_MARK;
     uint8_t kept = *mark;
     puts("bucket 2 without its mark, then mended");
     join(KIOSK, LHSTAR_DONE);

@@ -12,13 +12,19 @@ enum { CAPACITY = 2, SLOTS = 4, MOST = 16 };
 static uint8_t file[LHSTAR_FILE_BYTES(SLOTS, MOST)];
 static uint8_t table[LHSTAR_CLIENT_BYTES];
 static uint8_t answer[LHSTAR_ANSWER_BYTES];
-static const uint8_t payload[LHSTAR_PAYLOAD_BYTES];
+static const uint8_t payload[LHSTAR_PAYLOAD_BYTES] = { 0 };
 static uint16_t visits[MOST];
 static uint64_t matches[MOST];
 
 static unsigned number_at(const uint8_t *bytes)
 {
     return bytes[0] | (unsigned)bytes[1] << 8;
+}
+
+static void write_number(uint8_t *bytes, unsigned number)
+{
+    bytes[0] = (uint8_t)number;
+    bytes[1] = (uint8_t)(number >> 8);
 }
 
 /* A file of so many most buckets after so many splits. */
@@ -39,19 +45,18 @@ static void believe(unsigned level, unsigned pointer)
 {
     if (lhstar_join(table, sizeof table, 0) != LHSTAR_DONE)
         exit(1);
-    table[2] = (uint8_t)level;
-    table[4] = (uint8_t)pointer;
-    table[5] = (uint8_t)(pointer >> 8);
+    table[LHSTAR_CLIENT_LEVEL] = (uint8_t)level;
+    write_number(table + LHSTAR_CLIENT_POINTER, pointer);
 }
 
 static void print_state(void)
 {
-    printf("file (%u,%u)", file[2], number_at(file + 4));
+    printf("file (%u,%u)", file[LHSTAR_HEADER_LEVEL], number_at(file + LHSTAR_HEADER_POINTER));
 }
 
 static void print_image(void)
 {
-    printf("image (%u,%u)", table[2], number_at(table + 4));
+    printf("image (%u,%u)", table[LHSTAR_CLIENT_LEVEL], number_at(table + LHSTAR_CLIENT_POINTER));
 }
 
 /* A search that finds nothing: where it went, and the image then. */
@@ -66,7 +71,7 @@ static void ask(const char *name, size_t length, unsigned long long key)
     printf(", key %llu: ", key);
     printf("reply %u, route", lhstar_search(file, length, table, sizeof table, 0, key, answer, sizeof answer));
     for (k = 0; k < answer[LHSTAR_ANSWER_ROUTE_LENGTH]; k++)
-        printf(" %u", number_at(answer + LHSTAR_ANSWER_ROUTE + 2 * k));
+        printf(" %u", number_at(answer + LHSTAR_ANSWER_ROUTE + LHSTAR_NUMBER_BYTES * k));
     printf(", forwards %u; ", (unsigned)lhstar_forwards(answer, sizeof answer));
     print_image();
     printf("\n");

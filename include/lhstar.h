@@ -3,9 +3,8 @@
  *
  * The caller lends every buffer as a pointer and a length in bytes, the two lists of a scan as a
  * pointer and a length in entries. No pointer is null, also not with length 0, and the buffers of
- * one call do not overlap. The library keeps nothing between
- * calls: the file buffer is the file, the table buffer holds the clients' images. Numbers of more
- * than one byte are little-endian.
+ * one call do not overlap. The library keeps nothing between calls: the file buffer is the file,
+ * the table buffer holds the clients' images. Numbers of more than one byte are little-endian.
  *
  * The file is in state (i, n), its level and its split pointer, and has 2^i + n buckets. A client's
  * image (i', n') is what it believes of that state. A key may therefore be sent to a bucket that is
@@ -20,6 +19,9 @@
 #ifdef __cplusplus
 extern "C" {
 #endif
+
+/* The library's version; the pkg-config file has it from here. */
+#define LHSTAR_VERSION "0.1.0"
 
 /* The replies. A call gives the first, in the order named at the call, whose condition holds. */
 enum lhstar_reply {
@@ -43,26 +45,67 @@ enum lhstar_reply {
 /* Stands where there is no bucket. */
 #define LHSTAR_NO_BUCKET 65535u
 
-/* Sizes in bytes. */
-#define LHSTAR_ANSWER_BYTES 24
+/*
+ * The layouts: by which byte each part starts, and how many bytes there are. A mark is two bytes;
+ * bytes without a name are zero.
+ */
+#define LHSTAR_NUMBER_BYTES 2 /* a bucket's number, a split pointer, a count */
+#define LHSTAR_KEY_BYTES 8
 #define LHSTAR_PAYLOAD_BYTES 14
-#define LHSTAR_CLIENT_BYTES 8
-#define LHSTAR_HEADER_BYTES 16
-#define LHSTAR_HEAD_BYTES 8
-#define LHSTAR_SLOT_BYTES 24
-#define LHSTAR_REGION_BYTES(slots) (8UL + 24UL * (slots))
-#define LHSTAR_FILE_BYTES(slots, most) (16UL + (most) * LHSTAR_REGION_BYTES(slots))
+
+/* The file's header. */
+#define LHSTAR_HEADER_MARK 0     /* 4C 46 */
+#define LHSTAR_HEADER_LEVEL 2    /* i, one byte */
+#define LHSTAR_HEADER_CAPACITY 3 /* b, one byte: a bucket of more records is due for a split */
+#define LHSTAR_HEADER_POINTER 4  /* n, a number */
+#define LHSTAR_HEADER_MOST 6     /* the most buckets, a number */
+#define LHSTAR_HEADER_SLOTS 8    /* the slots of each bucket, one byte */
+#define LHSTAR_HEADER_ZEROS 9    /* seven bytes */
+#define LHSTAR_HEADER_BYTES (LHSTAR_HEADER_ZEROS + 7)
+
+/* A bucket's head. */
+#define LHSTAR_HEAD_MARK 0  /* 4C 42 */
+#define LHSTAR_HEAD_LEVEL 2 /* the bucket's level, one byte */
+#define LHSTAR_HEAD_COUNT 4 /* how many slots are in use, a number */
+#define LHSTAR_HEAD_ZEROS 6 /* two bytes */
+#define LHSTAR_HEAD_BYTES (LHSTAR_HEAD_ZEROS + 2)
+
+/* A slot in use. Those in use come first, in order of arrival; the others are all zero. */
+#define LHSTAR_SLOT_MARK 0     /* 4C 52 */
+#define LHSTAR_SLOT_KEY 2      /* eight bytes: the ride, then the lift */
+#define LHSTAR_SLOT_PAYLOAD 10 /* fourteen bytes */
+#define LHSTAR_SLOT_BYTES (LHSTAR_SLOT_PAYLOAD + LHSTAR_PAYLOAD_BYTES)
+
+/* A client's record in the table. */
+#define LHSTAR_CLIENT_MARK 0    /* 4C 43 */
+#define LHSTAR_CLIENT_LEVEL 2   /* i', one byte */
+#define LHSTAR_CLIENT_POINTER 4 /* n', a number */
+#define LHSTAR_CLIENT_ZEROS 6   /* two bytes */
+#define LHSTAR_CLIENT_BYTES (LHSTAR_CLIENT_ZEROS + 2)
+
+/* A region is a bucket's head and its slots; a file is its header and then its regions. */
+#define LHSTAR_REGION_BYTES(slots) (LHSTAR_HEAD_BYTES + 1UL * LHSTAR_SLOT_BYTES * (slots))
+#define LHSTAR_FILE_BYTES(slots, most) (LHSTAR_HEADER_BYTES + (most) * LHSTAR_REGION_BYTES(slots))
 
 /*
- * The answer block of insert and search, by the byte where each part starts. With replies 2 to 6
- * there is no route; with 7 it ends at the unsound bucket. Reply 14 leaves the block as it was.
+ * The answer block of insert and search. With replies 2 to 6 there is no route; with 7 it ends at
+ * the unsound bucket. Reply 14 leaves the block as it was.
  */
-#define LHSTAR_ANSWER_REPLY 0        /* the reply */
-#define LHSTAR_ANSWER_ROUTE_LENGTH 1 /* how many buckets the route has */
-#define LHSTAR_ANSWER_ROUTE 2        /* their numbers, 2 bytes each, LHSTAR_NO_BUCKET if unused */
+#define LHSTAR_ANSWER_REPLY 0        /* the reply, one byte */
+#define LHSTAR_ANSWER_ROUTE_LENGTH 1 /* how many buckets the route has, one byte */
+#define LHSTAR_ANSWER_ROUTE 2        /* their numbers, LHSTAR_NO_BUCKET if unused */
 #define LHSTAR_ANSWER_SPLIT_DUE 8    /* 1 if an accepted insert left more than b records, else 0 */
 #define LHSTAR_ANSWER_PAYLOAD 10     /* the payload that a search found, else zeros */
+#define LHSTAR_ANSWER_BYTES (LHSTAR_ANSWER_PAYLOAD + LHSTAR_PAYLOAD_BYTES)
 #define LHSTAR_ROUTE_MOST 3          /* the most buckets of a route */
+
+/*
+ * No call takes more bytes of stack, its arguments and its return address included. Measured by
+ * tests/stack.c: create 64, join 16, insert 928, search 912, forwards 16, split 864, check 864,
+ * view 784, parent 16; and scan 42064, which is still over it. The binding of memset by a dynamic
+ * linker, once in a program, is not counted.
+ */
+#define LHSTAR_STACK_BYTES 16384
 
 /*
  * Makes a file without records in state (0, 0): capacity b of 1 to slots, 1 to 64 slots for each
