@@ -95,7 +95,6 @@ pub fn create(file: &mut [u8], capacity: u64, slots: u64, most: u64) -> u8 {
     reply::DONE
 }
 
-#[repr(C)]
 #[derive(Clone, Copy, Debug, PartialEq, Eq)]
 pub struct CheckAnswer {
     pub reply: u32,
@@ -126,7 +125,6 @@ fn lowest_unsound(header: &Header, file: &[u8]) -> Option<u32> {
     })
 }
 
-#[repr(C)]
 #[derive(Clone, Copy, Debug, PartialEq, Eq)]
 pub struct SplitAnswer {
     pub reply: u32,
@@ -164,7 +162,6 @@ pub fn split(file: &mut [u8]) -> SplitAnswer {
     SplitAnswer { reply: reply::DONE.into(), old_bucket, new_bucket }
 }
 
-#[repr(C)]
 #[derive(Clone, Copy, Debug, Default, PartialEq, Eq)]
 pub struct ViewAnswer {
     pub start: u64,

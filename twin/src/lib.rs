@@ -3,8 +3,6 @@
 
 pub mod bucket;
 pub mod client;
-#[cfg(feature = "library")]
-pub mod ffi;
 pub mod file;
 pub mod random;
 pub mod ride;

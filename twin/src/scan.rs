@@ -5,7 +5,6 @@ use crate::file::Header;
 use crate::rules::State;
 use crate::{bucket, reply, NONE};
 
-#[repr(C)]
 #[derive(Clone, Copy, Debug, PartialEq, Eq)]
 pub struct ScanAnswer {
     pub reply: u32,

@@ -1,6 +1,7 @@
 //! The two sides of every comparison: the proved library and the twin.
 
-use crate::{ffi, CheckAnswer, ScanAnswer, SplitAnswer, ViewAnswer};
+use crate::{CheckAnswer, ScanAnswer, SplitAnswer, ViewAnswer};
+use lhstar::raw;
 
 pub type Insert = fn(&mut [u8], &mut [u8], u64, u64, &[u8], &mut [u8]) -> u8;
 pub type Search = fn(&[u8], &mut [u8], u64, u64, &mut [u8]) -> u8;
@@ -21,16 +22,28 @@ pub struct Side {
 }
 
 pub const LIBRARY: Side = Side {
-    create: ffi::create,
-    join: ffi::join,
-    insert: ffi::insert,
-    search: ffi::search,
-    split: ffi::split,
-    check: ffi::check,
-    scan: ffi::scan,
-    view: ffi::view,
-    parent: ffi::parent,
-    forwards: ffi::forwards,
+    create: raw::create,
+    join: raw::join,
+    insert: raw::insert,
+    search: raw::search,
+    split: |file| {
+        let raw::SplitAnswer { reply, old_bucket, new_bucket } = raw::split(file);
+        SplitAnswer { reply, old_bucket, new_bucket }
+    },
+    check: |file| {
+        let raw::CheckAnswer { reply, bucket } = raw::check(file);
+        CheckAnswer { reply, bucket }
+    },
+    scan: |file, table, client, lift, visited, matched| {
+        let raw::ScanAnswer { reply, bucket, visits, matches } = raw::scan(file, table, client, lift, visited, matched);
+        ScanAnswer { reply, bucket, visits, matches }
+    },
+    view: |file, bucket| {
+        let raw::ViewAnswer { start, length } = raw::view(file, bucket);
+        ViewAnswer { start, length }
+    },
+    parent: raw::parent,
+    forwards: raw::forwards,
 };
 
 pub const TWIN: Side = Side {

@@ -1,0 +1,109 @@
+//! What the calls answer.
+
+use crate::{ANSWER_BYTES, PAYLOAD_BYTES, Reply, forwards};
+
+const REPLY: usize = 0;
+const ROUTE_LENGTH: usize = 1;
+const ROUTE: usize = 2;
+const SPLIT_DUE: usize = 8;
+const PAYLOAD: usize = 10;
+
+/// What [`insert`](crate::insert) and [`search`](crate::search) answer: the block of 24 bytes that the library filled.
+///
+/// ```
+/// # use lhstar::{Reply, create, join, insert, search, file_bytes};
+/// # let (mut file, mut table) = ([0; file_bytes(4, 16)], [0; lhstar::CLIENT_BYTES]);
+/// # assert_eq!(create(&mut file, 2, 4, 16), Reply::Done);
+/// # assert_eq!(join(&mut table, 0), Reply::Done);
+/// # for _ in 0..5 { assert_eq!(lhstar::split(&mut file).reply, Reply::Done); }
+/// # assert_eq!(insert(&mut file, &mut [b'L', b'C', 2, 0, 2, 0, 0, 0], 0, 5, b"a ride, uphill").reply(), Reply::Done);
+/// let answer = search(&file, &mut table, 0, 5);
+/// assert_eq!(answer.reply(), Reply::Done);
+/// assert!(answer.route().eq([0, 1, 5]));
+/// assert_eq!(answer.forwards(), 2);
+/// assert_eq!(answer.payload(), b"a ride, uphill");
+/// ```
+#[must_use = "the call may have been refused"]
+#[derive(Clone, Copy, Debug, PartialEq, Eq, Hash)]
+pub struct AnswerBlock([u8; ANSWER_BYTES]);
+
+impl AnswerBlock {
+    /// The block that a call fills. The call is lent all of it, so it never stays empty.
+    pub(crate) fn filled_by(call: impl FnOnce(&mut [u8]) -> u8) -> AnswerBlock {
+        let mut block = [0; ANSWER_BYTES];
+        call(&mut block);
+        AnswerBlock(block)
+    }
+
+    /// The reply.
+    pub fn reply(&self) -> Reply {
+        Reply::given(self.0[REPLY].into())
+    }
+
+    /// The buckets that the key came by, in order: at most [`ROUTE_MOST`](crate::ROUTE_MOST), none with replies 2 to 6,
+    /// and with [`BucketUnsound`](Reply::BucketUnsound) the unsound one last.
+    pub fn route(&self) -> impl DoubleEndedIterator<Item = u16> + ExactSizeIterator + Clone {
+        let numbers = self.0[ROUTE..SPLIT_DUE].chunks_exact(2).map(|pair| u16::from_le_bytes([pair[0], pair[1]]));
+        numbers.take(self.0[ROUTE_LENGTH].into())
+    }
+
+    /// How often the key was sent on: the route's buckets less one, or 0 without a route.
+    #[must_use]
+    pub fn forwards(&self) -> u32 {
+        forwards(self)
+    }
+
+    /// Whether an accepted insert left more records in its bucket than the capacity, so that a split is due.
+    #[must_use]
+    pub fn split_due(&self) -> bool {
+        self.0[SPLIT_DUE] != 0
+    }
+
+    /// The payload that a search found, else zeros.
+    #[must_use]
+    pub fn payload(&self) -> &[u8; PAYLOAD_BYTES] {
+        self.0[PAYLOAD..].first_chunk().expect("the payload ends the block")
+    }
+
+    /// The block itself, as C has it.
+    #[must_use]
+    pub fn as_bytes(&self) -> &[u8; ANSWER_BYTES] {
+        &self.0
+    }
+}
+
+/// What [`split`](crate::split) answers.
+#[must_use = "the split may have been refused"]
+#[derive(Clone, Copy, Debug, PartialEq, Eq, Hash)]
+pub struct SplitAnswer {
+    /// The reply.
+    pub reply: Reply,
+    /// The bucket that was split; with [`BucketUnsound`](Reply::BucketUnsound) the unsound one.
+    pub old_bucket: Option<u16>,
+    /// The new bucket, if the file was split.
+    pub new_bucket: Option<u16>,
+}
+
+/// What [`check`](crate::check) answers.
+#[must_use = "the file may be unsound"]
+#[derive(Clone, Copy, Debug, PartialEq, Eq, Hash)]
+pub struct CheckAnswer {
+    /// The reply.
+    pub reply: Reply,
+    /// The lowest unsound region, with [`BucketUnsound`](Reply::BucketUnsound).
+    pub bucket: Option<u16>,
+}
+
+/// What [`scan`](crate::scan) answers; the two lists are the written parts of those that it was lent.
+#[must_use = "the scan may have been refused"]
+#[derive(Clone, Copy, Debug, PartialEq, Eq, Hash)]
+pub struct ScanAnswer<'lists> {
+    /// The reply.
+    pub reply: Reply,
+    /// The first unsound bucket in visit order, with [`BucketUnsound`](Reply::BucketUnsound).
+    pub bucket: Option<u16>,
+    /// All buckets as they were visited; empty if the scan was refused.
+    pub visits: &'lists [u16],
+    /// The matching keys, in visit order and then slot order; empty if the scan was refused.
+    pub matches: &'lists [u64],
+}

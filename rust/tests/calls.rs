@@ -1,0 +1,181 @@
+//! Document 01's worked examples and every reply, by the calls of this crate.
+
+use lhstar::raw;
+use lhstar::{ANSWER_BYTES, CLIENT_BYTES, HEADER_BYTES, NO_BUCKET, PAYLOAD_BYTES, Reply, file_bytes, region_bytes};
+use lhstar::{AnswerBlock, CheckAnswer, SplitAnswer};
+use lhstar::{check, create, forwards, insert, join, parent, scan, search, split, view};
+
+const CAPACITY: u64 = 2;
+const SLOTS: u64 = 4;
+const MOST: u64 = 16;
+const PAYLOAD: &[u8; PAYLOAD_BYTES] = b"a ride, uphill";
+
+/// A file with 16 buckets at most and one client.
+struct Rides {
+    file: [u8; file_bytes(SLOTS, MOST)],
+    table: [u8; CLIENT_BYTES],
+}
+
+impl Rides {
+    /// A file after so many splits, and a client with an image.
+    fn new(splits: usize, (level, pointer): (u8, u8)) -> Rides {
+        let mut file = [0xAA; file_bytes(SLOTS, MOST)];
+        assert_eq!(create(&mut file, CAPACITY, SLOTS, MOST), Reply::Done);
+        for _ in 0..splits {
+            assert_eq!(split(&mut file).reply, Reply::Done);
+        }
+        Rides { file, table: [b'L', b'C', level, 0, pointer, 0, 0, 0] }
+    }
+
+    fn image(&self) -> (u8, u8) {
+        (self.table[2], self.table[4])
+    }
+
+    fn insert(&mut self, key: u64) -> AnswerBlock {
+        insert(&mut self.file, &mut self.table, 0, key, PAYLOAD)
+    }
+
+    fn search(&mut self, key: u64) -> AnswerBlock {
+        search(&self.file, &mut self.table, 0, key)
+    }
+
+    fn region(&mut self, bucket: usize) -> &mut [u8] {
+        &mut self.file[HEADER_BYTES + bucket * region_bytes(SLOTS)..][..region_bytes(SLOTS)]
+    }
+
+    /// A search's reply on this file and table.
+    fn search_reply(&mut self) -> Reply {
+        self.search(5).reply()
+    }
+
+    /// A scan's reply on this file and table, for lists of so many entries.
+    fn scan_reply(&self, visits: usize, matches: usize) -> Reply {
+        scan(&self.file, &self.table, 0, 0, &mut vec![0; visits], &mut vec![0; matches]).reply
+    }
+}
+
+#[test]
+fn a_key_comes_by_its_route_and_the_image_learns() {
+    let mut rides = Rides::new(5, (0, 0));
+    for (route, image) in [(&[0, 1, 5][..], (2, 1)), (&[1, 5], (2, 2)), (&[5], (2, 2))] {
+        let answer = rides.search(5);
+        assert_eq!(answer.reply(), Reply::Absent);
+        assert_eq!(answer.route().collect::<Vec<_>>(), route);
+        assert_eq!(answer.route().len(), route.len());
+        assert_eq!(answer.route().next_back(), Some(5));
+        assert_eq!(answer.forwards() as usize, route.len() - 1);
+        assert_eq!(forwards(&answer), answer.forwards());
+        assert_eq!(rides.image(), image);
+    }
+}
+
+#[test]
+fn an_inserted_record_is_found_and_seen() {
+    let mut rides = Rides::new(5, (2, 2));
+    let answer = rides.insert(5);
+    assert_eq!((answer.reply(), answer.split_due(), answer.payload()), (Reply::Done, false, &[0; PAYLOAD_BYTES]));
+    let answer = rides.search(5);
+    assert_eq!((answer.reply(), answer.split_due(), answer.payload()), (Reply::Done, false, PAYLOAD));
+    assert_eq!(&answer.as_bytes()[..10], &[0, 1, 5, 0, 255, 255, 255, 255, 0, 0]);
+    assert_eq!(view(&rides.file, 5), b"LR\x05\0\0\0\0\0\0\0a ride, uphill");
+    assert!(view(&rides.file, 1).is_empty());
+    assert!(view(&rides.file, 6).is_empty());
+    assert!(view(&rides.file, u64::MAX).is_empty());
+}
+
+#[test]
+fn a_split_is_due_above_the_capacity() {
+    let mut rides = Rides::new(0, (0, 0));
+    assert_eq!([1, 2, 3, 4].map(|key| rides.insert(key).split_due()), [false, false, true, true]);
+    assert_eq!(rides.insert(5).reply(), Reply::BucketFull);
+    assert!(!rides.insert(5).split_due());
+    assert_eq!(rides.insert(4).reply(), Reply::KeyHeld);
+}
+
+#[test]
+fn a_scan_hands_back_what_it_wrote() {
+    let mut rides = Rides::new(5, (1, 1));
+    for key in [4, 1 << 32 | 4, 5] {
+        assert_eq!(rides.insert(key).reply(), Reply::Done);
+    }
+    rides.table = *b"LC\x01\0\x01\0\0\0";
+    let (mut visits, mut matches) = ([99; 8], [99; 3]);
+    let answer = scan(&rides.file, &rides.table, 0, 0, &mut visits, &mut matches);
+    assert_eq!((answer.reply, answer.bucket), (Reply::Done, None));
+    assert_eq!(answer.visits, [0, 1, 2, 4, 3, 5]);
+    assert_eq!(answer.matches, [4, 5]);
+    assert_eq!((visits[6..].to_vec(), matches[2]), (vec![99, 99], 99));
+
+    rides.region(3)[0] = 0;
+    let answer = scan(&rides.file, &rides.table, 0, 0, &mut visits, &mut matches);
+    assert_eq!((answer.reply, answer.bucket), (Reply::BucketUnsound, Some(3)));
+    assert!(answer.visits.is_empty() && answer.matches.is_empty());
+}
+
+#[test]
+fn file_and_table_of_a_scan_may_be_one_slice() {
+    let rides = Rides::new(0, (0, 0));
+    let answer = scan(&rides.file, &rides.file, 0, 0, &mut [], &mut []);
+    assert_eq!(answer.reply, Reply::ClientUnsound);
+}
+
+#[test]
+fn splits_and_parents() {
+    let mut rides = Rides::new(2, (0, 0));
+    let done = SplitAnswer { reply: Reply::Done, old_bucket: Some(1), new_bucket: Some(3) };
+    assert_eq!(split(&mut rides.file), done);
+    let unsound = SplitAnswer { reply: Reply::BucketUnsound, old_bucket: Some(4), new_bucket: None };
+    rides.region(4)[7] = 1;
+    assert_eq!(split(&mut rides.file), unsound);
+    assert_eq!(check(&rides.file), CheckAnswer { reply: Reply::BucketUnsound, bucket: Some(4) });
+    assert_eq!([0, 1, 5, 4096, 65_535].map(parent), [None, Some(0), Some(1), Some(0), Some(32_767)]);
+}
+
+#[test]
+fn every_refusal() {
+    let mut rides = Rides::new(0, (0, 0));
+    assert_eq!(join(&mut [0; 12], 0), Reply::TableLength);
+    assert_eq!(join(&mut rides.table, 1), Reply::NoClient);
+    assert_eq!(Rides::new(0, (13, 0)).search_reply(), Reply::ClientUnsound);
+    assert_eq!(Rides::new(0, (0, 1)).search_reply(), Reply::ClientUnsound);
+    assert_eq!(check(&rides.file[1..]), CheckAnswer { reply: Reply::HeaderUnsound, bucket: None });
+    assert_eq!(Rides::new(0, (1, 0)).search_reply(), Reply::ClientAhead);
+    rides.region(0)[2] = 1;
+    assert_eq!(rides.search_reply(), Reply::BucketUnsound);
+    assert_eq!(rides.insert(5).route().collect::<Vec<_>>(), [0]);
+    let full = SplitAnswer { reply: Reply::FileFull, old_bucket: None, new_bucket: None };
+    assert_eq!(split(&mut Rides::new(15, (0, 0)).file), full);
+    assert_eq!(Rides::new(3, (0, 0)).scan_reply(3, 0), Reply::VisitsShort);
+    let mut rides = Rides::new(3, (0, 0));
+    assert_eq!(rides.insert(5).reply(), Reply::Done);
+    assert_eq!([rides.scan_reply(4, 0), rides.scan_reply(4, 1)], [Reply::MatchesShort, Reply::Done]);
+    assert_eq!(create(&mut rides.file[1..], CAPACITY, SLOTS, MOST), Reply::Figures);
+}
+
+#[test]
+fn raw_calls_take_every_length() {
+    let mut rides = Rides::new(0, (0, 0));
+    let mut long = [7; ANSWER_BYTES + 1];
+    let reply = raw::insert(&mut rides.file, &mut rides.table, 0, 5, PAYLOAD, &mut long);
+    assert_eq!((Reply::try_from(reply), long), (Ok(Reply::BlockLength), [7; ANSWER_BYTES + 1]));
+    assert_eq!(raw::insert(&mut rides.file, &mut rides.table, 0, 5, &[], &mut long[1..]), 14);
+    assert_eq!(raw::search(&rides.file, &mut rides.table, 0, 5, &mut []), 14);
+    assert_eq!(raw::forwards(&long), 0);
+    assert_eq!(raw::create(&mut [], 0, 0, 0), 13);
+    assert_eq!(raw::join(&mut [], u64::MAX), 2);
+    assert_eq!(raw::split(&mut []), raw::SplitAnswer { reply: 5, old_bucket: NO_BUCKET, new_bucket: NO_BUCKET });
+    assert_eq!(raw::check(&[]), raw::CheckAnswer { reply: 5, bucket: NO_BUCKET });
+    assert_eq!(raw::view(&[], 0), raw::ViewAnswer { start: 0, length: 0 });
+    let refused = raw::ScanAnswer { reply: 2, bucket: NO_BUCKET, visits: 0, matches: 0 };
+    assert_eq!(raw::scan(&[], &[], 0, 0, &mut [], &mut []), refused);
+    assert_eq!([raw::parent(5), raw::parent(0)], [1, NO_BUCKET]);
+}
+
+#[test]
+fn refusals_are_errors_in_words() {
+    let words = |reply: Reply| -> Result<(), Box<dyn std::error::Error>> {
+        if reply.is_refusal() { Err(reply.into()) } else { Ok(()) }
+    };
+    assert!(words(Reply::Done).is_ok() && words(Reply::Absent).is_ok());
+    assert_eq!(words(Reply::NoClient).unwrap_err().to_string(), "no such client");
+}
