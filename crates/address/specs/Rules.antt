@@ -4,12 +4,14 @@ pub mod Address
 pub mod Adjust
 pub mod Cases
 pub mod Earlier
+pub mod First
 pub mod Grow
 pub mod Hash
 pub mod Order
 pub mod Parent
 pub mod Route
 pub mod Scan
+pub mod Sums
 pub mod Table
 use Prim.Native.Nat.{ℕ, zero, suc, _+_, _*_, _-_, _^_, _%_, _≤_, _<_, max}
 use mathlib.Core.Bool.{Bool, true, cond, _&&_, _||_}
