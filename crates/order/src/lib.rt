@@ -8,7 +8,7 @@ ghost use Prim.Native.Nat.{ℕ, _+_, _-_, _≤_, _<_};
 ghost use lib.ListN.{length, take};
 ghost use Rattle.address.specs.Limits.{firstBuckets};
 ghost use Rattle.address.specs.Room.{Room, ImageRoom};
-ghost use Rattle.address.specs.Rules.{buckets, child, numbers, visits};
+ghost use Rattle.address.specs.Rules.{buckets, child, numbers, visits, parent, earlier};
 ghost use Rattle.address.specs.Rules.Order.{born, Told};
 ghost use Rattle.order.specs.Queue.{Scannable};
 
@@ -71,4 +71,32 @@ pub fn visit_order(state: Image, image: Image, queue: &mut [u16])
         tail = send_on(bucket, told, own, tail, queue);
         handled += 1;
     }
+}
+
+// The bucket of whose split this one was born, by the leading zeros of its number.
+fn parent_of(bucket: u32) -> u32
+    requires { ⌜ 0 < bucket ⌝ }
+    ensures { λ r. ⌜ (r ≡ parent firstBuckets bucket) × (r < bucket) ⌝ }
+{
+    bucket - (1 << (31 - u32::leading_zeros(bucket)))
+}
+
+// Whether a scan by a client that believes in so many buckets visits one bucket before another: both are followed up
+// to their parents until one of them is believed in or both have one parent.
+pub fn earlier(believed: u32, bucket: u32, other: u32) -> bool
+    requires { ⌜ 0 < believed ⌝ }
+    ensures { λ r. ⌜ r ≡ earlier firstBuckets believed bucket other ⌝ }
+{
+    let mut one = bucket;
+    let mut two = other;
+    while (believed <= one) & (believed <= two) {
+        let above = parent_of(one);
+        let beside = parent_of(two);
+        if above == beside {
+            return one < two;
+        }
+        one = above;
+        two = beside;
+    }
+    one < two
 }

@@ -1,0 +1,62 @@
+-- Two buckets followed up to their parents: whichever of the two reached is first, its descendant is.
+use Prim.Native.Nat.{ℕ, _≤_, _<_}
+use mathlib.Core.Path.{_≡_, refl, sym, ap₂, _∙_}
+use mathlib.Core.Bool.{Bool, true, false, _&&_}
+use mathlib.Core.Logic.{_⊎_, inl, inr}
+use native.Mathlib.Omega.{arith}
+use borrow.Author.Tests.{leb-true, leb-false}
+use lib.Dec.{ltb, leb}
+use Rattle.address.specs.Limits.{firstBuckets}
+use Rattle.address.specs.Rules.{parent, earlier}
+use Rattle.address.specs.Rules.Earlier.{earlier-number, earlier-parents}
+
+-- What is known of the two that were reached from a bucket and another: they are visited in the same order.
+pub record Reached (believed bucket other one two : ℕ) : Type 0 where
+  pub some : 0 < believed
+  pub alike : earlier firstBuckets believed one two ≡ earlier firstBuckets believed bucket other
+
+pub reached-start : (believed bucket other : ℕ) → 0 < believed → Reached believed bucket other bucket other
+reached-start believed bucket other some = record { some = some; alike = refl }
+
+-- both of two tests pass
+both : (a b : Bool) → (a && b) ≡ true → (a ≡ true) × (b ≡ true)
+both true b e = (refl, e)
+both false b e = (e, cc)
+
+module _ {believed bucket other one two : ℕ} (so : Reached believed bucket other one two) where
+  -- neither is believed in
+  pub reached-past : (leb believed one && leb believed two) ≡ true → (believed ≤ one) × (believed ≤ two)
+  reached-past e =
+      let (left, right) = both (leb believed one) (leb believed two) e in
+      (leb-true believed one left, leb-true believed two right)
+
+  -- one of them is
+  pub reached-believed : (leb believed one && leb believed two) ≡ false
+      → ltb one two ≡ earlier firstBuckets believed bucket other
+  reached-believed e = sym (earlier-number firstBuckets (omega arith) believed (so .some) one two
+      (go (leb believed one) (leb believed two) (leb-false believed one) (leb-false believed two) e)) ∙ so .alike
+    where
+      go : (a b : Bool) → (a ≡ false → one < believed) → (b ≡ false → two < believed) → (a && b) ≡ false
+          → (one < believed) ⊎ ((two < believed) ⊎ (parent firstBuckets one ≡ parent firstBuckets two))
+      go true b l r h = inr (inl (r h))
+      go false b l r h = inl (l h)
+
+  module _ {above beside : ℕ} (ea : above ≡ parent firstBuckets one) (eb : beside ≡ parent firstBuckets two) where
+    -- they have one parent
+    pub reached-siblings : above ≡ beside → ltb one two ≡ earlier firstBuckets believed bucket other
+    reached-siblings e =
+        sym (earlier-number firstBuckets (omega arith) believed (so .some) one two (inr (inr cc))) ∙ so .alike
+
+    -- or their parents are reached next
+    pub reached-parents : (leb believed one && leb believed two) ≡ true → (above ≡ beside → ⊥)
+        → Reached believed bucket other above beside
+    reached-parents past e =
+        let (low, high) = reached-past past in
+        record {
+          some = so .some;
+          alike = ap₂ (earlier firstBuckets believed) ea eb
+              ∙ sym
+              (earlier-parents firstBuckets (omega arith) believed (so .some) one two low high
+              (λ s. e (ea ∙ s ∙ sym eb)))
+              ∙ so .alike;
+        }
