@@ -9,6 +9,7 @@ use lib.Dec.{ltb, leb}
 use Rattle.address.specs.Limits.{firstBuckets}
 use Rattle.address.specs.Rules.{parent, earlier}
 use Rattle.address.specs.Rules.Earlier.{earlier-number, earlier-parents}
+use Rattle.layout.specs.Bytes.Tests.{and-left, and-right}
 
 -- What is known of the two that were reached from a bucket and another: they are visited in the same order.
 pub record Reached (believed bucket other one two : ℕ) : Type 0 where
@@ -18,17 +19,13 @@ pub record Reached (believed bucket other one two : ℕ) : Type 0 where
 pub reached-start : (believed bucket other : ℕ) → 0 < believed → Reached believed bucket other bucket other
 reached-start believed bucket other some = record { some = some; alike = refl }
 
--- both of two tests pass
-both : (a b : Bool) → (a && b) ≡ true → (a ≡ true) × (b ≡ true)
-both true b e = (refl, e)
-both false b e = (e, cc)
-
 module _ {believed bucket other one two : ℕ} (so : Reached believed bucket other one two) where
   -- neither is believed in
   pub reached-past : (leb believed one && leb believed two) ≡ true → (believed ≤ one) × (believed ≤ two)
-  reached-past e =
-      let (left, right) = both (leb believed one) (leb believed two) e in
-      (leb-true believed one left, leb-true believed two right)
+  reached-past e = (
+    leb-true believed one (and-left (leb believed one) (leb believed two) e),
+    leb-true believed two (and-right (leb believed one) (leb believed two) e),
+  )
 
   -- one of them is
   pub reached-believed : (leb believed one && leb believed two) ≡ false

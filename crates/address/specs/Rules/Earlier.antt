@@ -192,7 +192,13 @@ each-all P (x ∷ xs) f = (
       (⊎-elim (λ s. omega (arith, times-here y x xs s)) (λ s. omega (arith, times-there y x xs s)) (same y x))),
 )
 
--- of each number in a row
+-- as many numbers in a row as were asked for
+pub numbers-length : (a c : ℕ) → length (numbers a c) ≡ c
+unfolding numbers
+numbers-length a zero = refl
+numbers-length a (suc c) = ap suc (numbers-length (suc a) c)
+
+-- a property of each number in a row
 pub numbers-each : (P : ℕ → Type 0) (a c : ℕ) → ((x : ℕ) → a ≤ x → x < a + c → P x) → Each P (numbers a c)
 unfolding numbers
 numbers-each P a zero f = tt

@@ -1,7 +1,8 @@
 -- `order::earlier`: the two buckets reached are visited in the order of the two begun with; where they are apart, their
 -- numbers tell it.
 use native.Mathlib.Omega.{arith}
-use Rattle.order.specs.Earlier.{Reached, reached-start, reached-past, reached-believed, reached-siblings, reached-parents}
+use Rattle.order.specs.Earlier.{Reached, reached-start, reached-past, reached-believed, reached-siblings}
+use Rattle.order.specs.Earlier.{reached-parents}
 use Rattle.order.proofs.earlier.Statement.{statement}
 use Rattle.order.proofs.earlier.Tie as tie
 

@@ -1,134 +1,17 @@
--- `order::visit_order`: the list holds all messages sent so far, of which the first ones are handled; each turn handles
--- one and writes what it sends. Once all buckets have had their turn, the list is the visits.
+-- `order::visit_order`: of the list that was filled, the start is the visits.
 use borrow.Author.Needs.{needs}
-use Prim.Native.Nat.{ℕ, _-_, _≤_}
-use mathlib.Core.Path.{_≡_, refl, sym, ap, _∙_}
-use native.Mathlib.Omega.{arith}
-use lib.ListN.{length, take, getD}
-use Rattle.address.specs.Limits.{firstBuckets}
-use Rattle.address.specs.Rules.{buckets}
-use Rattle.order.specs.Queue.{Visiting, visiting-start, visiting-turn, visiting-done}
+use Rattle.order.specs.Queue.{visits-read}
 use Rattle.order.proofs.visit_order.Statement.{statement}
 use Rattle.order.proofs.visit_order.Tie as tie
 
-abbrev Inv-loop : tie.InvT-loop
-Inv-loop state image queue₀ count tail₀ handled₀ queue tail handled = (handled ≤ count) × (length queue ≡ length queue₀)
-    × Visiting state image queue tail handled
+fill-visits-requires : tie.Need-fill-visits-requires
+fill-visits-requires c κs = search needs
 
-abbrev μ-loop : tie.MeasureT-loop
-μ-loop state image queue₀ count tail₀ handled₀ queue tail handled = count - handled
-
-buckets-requires : tie.Need-buckets-requires Inv-loop μ-loop
-buckets-requires c κs = search needs
-
-cast-count : tie.Need-cast-count Inv-loop μ-loop
-cast-count c = search needs
-
-buckets-requires-2 : tie.Need-buckets-requires-2 Inv-loop μ-loop
-buckets-requires-2 c κs = search needs
-
-cast-tail : tie.Need-cast-tail Inv-loop μ-loop
-cast-tail c = search needs
-
-send-first-requires : tie.Need-send-first-requires Inv-loop μ-loop
-send-first-requires c κs = search needs
-
-loop-holds : tie.Need-loop-holds Inv-loop μ-loop
-loop-holds c =
-    let p = c .before .before .before .before .before .before .before .pre in
-    let a = c .before .before .before .before .before .before .before .args in (
-      omega arith,
-      refl,
-      visiting-start (a .state) (a .image) (p .0) _
-          (c .before .before .before .before .buckets2 .result) (c .before .before .before .before .buckets2 .ensures)
-          (c .before .before .send-first .ensures) (omega (arith, c .before .before .send-first .kept)),
-    )
-
-mul-bucket : tie.Need-mul-bucket Inv-loop μ-loop
-mul-bucket c = search needs
-
-slice-read-bucket : tie.Need-slice-read-bucket Inv-loop μ-loop
-slice-read-bucket c = search needs
-
-cast-bucket : tie.Need-cast-bucket Inv-loop μ-loop
-cast-bucket c = omega (arith, c .slice-known3 .given (c .before .before .loop .handled))
-
-message-level-requires : tie.Need-message-level-requires Inv-loop μ-loop
-message-level-requires c κs = search needs
-
-level-of-requires : tie.Need-level-of-requires Inv-loop μ-loop
-level-of-requires c κs = search needs
-
-send-on-requires : tie.Need-send-on-requires Inv-loop μ-loop
-send-on-requires c κs =
-    let p =
-    c .before .before .before .before .before .before .before .before .before .before .before .before .before .pre
-    in
-    let a =
-    c .before .before .before .before .before .before .before .before .before .before .before .before .before .args
-    in
-    let l = c .before .before .before .before .before .loop in
-    let t = visiting-turn (a .state) (a .image) (p .0) (l .queue) (l .tail) (l .handled) (l .inv .2)
-    (omega (
-      arith,
-      c .before .before .before .before .before .before .before .before .before .before .before .buckets .ensures,
-    ))
-    (getD (l .queue) (l .handled) 0) (c .before .before .message-level .result) (c .before .level-of .result) refl
-    (c .before .before .message-level .ensures) (c .before .level-of .ensures) in
-    (t .low, omega (arith, t .fits, l .inv .2 .room), λ k low high. omega (arith, t .children k low high, p .0 .few))
-
-add-handled : tie.Need-add-handled Inv-loop μ-loop
-add-handled c = search needs
-
-loop-less : tie.Need-loop-less Inv-loop μ-loop
-loop-less c = search needs
-
-loop-again : tie.Need-loop-again Inv-loop μ-loop
-loop-again c =
-    let p = c .before .before .before .before .before .before .before .before .before .before .before .before .before .before .before .before .pre in
-    let a = c .before .before .before .before .before .before .before .before .before .before .before .before .before .before .before .before .args in
-    let l = c .before .before .before .before .before .before .before .before .loop in
-    let t = visiting-turn (a .state) (a .image) (p .0) (l .queue) (l .tail) (l .handled) (l .inv .2) (omega (arith, c .before .before .before .before .before .before .before .before .before .before .before .before .before .before .buckets .ensures)) (getD (l .queue) (l .handled) 0) (c .before .before .before .before .before .message-level .result) (c .before .before .before .before .level-of .result) refl (c .before .before .before .before .before .message-level .ensures) (c .before .before .before .before .level-of .ensures) in (
-      omega arith,
-      omega (arith, c .before .before .send-on .kept),
-      t .next _ (c .before .before .send-on .result)
-          (c .before .before .send-on .ensures .0) (c .before .before .send-on .ensures .1)
-          (omega (arith, c .before .before .send-on .kept)),
-    )
-
-same-length : tie.Need-same-length Inv-loop μ-loop
+same-length : tie.Need-same-length
 same-length c = search needs
 
-returns : tie.Need-returns Inv-loop μ-loop
-returns c =
-    let p = c .before .before .before .before .before .before .before .before .before .pre in
-    let a = c .before .before .before .before .before .before .before .before .before .args in
-    let l = c .before .loop in
-    let all : l .handled ≡ buckets firstBuckets (a .state) = omega
-    (arith, c .before .before .before .before .before .before .before .buckets .ensures) in
-    ap (λ (n : ℕ). take n (l .queue)) (sym all)
-    ∙ visiting-done (a .state) (a .image) (p .0) (l .queue) (l .tail) (l .handled) (l .inv .2) all
+returns : tie.Need-returns
+returns c = search visits-read
 
 pub visit-order-spec : {M : Type 1} → statement M
-visit-order-spec =
-    tie.close
-    (tie.spec
-    Inv-loop
-    μ-loop
-    buckets-requires
-    cast-count
-    buckets-requires-2
-    cast-tail
-    send-first-requires
-    loop-holds
-    mul-bucket
-    slice-read-bucket
-    cast-bucket
-    message-level-requires
-    level-of-requires
-    send-on-requires
-    add-handled
-    loop-less
-    loop-again
-    same-length
-    returns)
+visit-order-spec = tie.close (tie.spec fill-visits-requires same-length returns)
