@@ -21,7 +21,7 @@ use Rattle.address.specs.Rules.Hash.{hash-suc, hash-hash}
 use Rattle.address.specs.Rules.Cases.{buckets-is, child-is}
 use Rattle.address.specs.Rules.Address.{address-own, address-number, level-spans}
 use Rattle.address.specs.Rules.Parent.{parent-of}
-use Rattle.address.specs.Rules.Scan.{times, times-none, times-here, times-there, visits-only}
+use Rattle.address.specs.Rules.Scan.{times, times-none, times-here, times-there, visits-only, visits-length}
 use Rattle.address.specs.Rules.Order.{born, born-cons, born-none, Told, Scanning, scanning-start, scanning-few}
 use Rattle.address.specs.Rules.Order.{scanning-waits}
 use Rattle.address.specs.Rules.Order.{scanning-next, scanning-done}
@@ -434,6 +434,12 @@ module _ (N : ℕ) (positive : 0 < N) (file : Image) (formed : Formed N file)
   -- the visits of a scan are in order
   pub visits-ordered : Ordered N (buckets N image) (visits N file image)
   visits-ordered = queued-done (buckets N file) 0 (numbers 0 (buckets N image)) (omega arith) queued-start
+
+  -- by places
+  pub visits-earlier : (p q : ℕ) → p < q → q < buckets N file
+      → earlier N (buckets N image) (getD (visits N file image) p 0) (getD (visits N file image) q 0) ≡ true
+  visits-earlier p q h there = ordered-at N (buckets N image) (visits N file image) p q visits-ordered h
+      (omega (arith, visits-length N positive file formed image imageFormed behind))
 
   -- a property of all buckets is one of each visit
   pub visits-each : (P : ℕ → Type 0) → ((x : ℕ) → x < buckets N file → P x) → Each P (visits N file image)

@@ -1,6 +1,6 @@
 -- A sum over the visits of a scan is the sum over all buckets, in any order, since each bucket stands among the visits
 -- once. Both are the sum over the numbers below a bound, each as often as it stands in the list.
-use Prim.Native.Nat.{ℕ, zero, suc, _+_, _*_, _≤_, _<_}
+use Prim.Native.Nat.{ℕ, zero, suc, _+_, _-_, _*_, _≤_, _<_}
 use mathlib.Core.Path.{_≡_, refl, sym, ap, _∙_}
 use mathlib.Core.List.{List, [], _∷_}
 use mathlib.Core.Logic.{⊎-elim}
@@ -9,6 +9,7 @@ use Rattle.address.specs.Compare.{same}
 use Rattle.address.specs.declared.Image.{Image}
 use Rattle.address.specs.Rules.{Formed, NotAhead, buckets, numbers, visits}
 use Rattle.address.specs.Rules.Scan.{times, times-none, times-here, times-there, visits-once}
+use Rattle.address.specs.Rules.Order.{numbers-cons, numbers-none}
 use Rattle.address.specs.Rules.Earlier.{Each, visits-each, numbers-each}
 
 -- The sum of a figure of each number in a list.
@@ -23,6 +24,15 @@ sum-none f = refl
 pub sum-cons : (f : ℕ → ℕ) (x : ℕ) (xs : List ℕ) → sumOf f (x ∷ xs) ≡ f x + sumOf f xs
 unfolding sumOf
 sum-cons f x xs = refl
+
+-- over numbers in a row, by the first of them
+pub sum-more : (f : ℕ → ℕ) (k end : ℕ) → k < end
+    → sumOf f (numbers k (end - k)) ≡ f k + sumOf f (numbers (k + 1) (end - (k + 1)))
+sum-more f k end h =
+    ap (sumOf f) (numbers-cons k end h) ∙ sum-cons f k (numbers (k + 1) (end - (k + 1)))
+
+pub sum-done : (f : ℕ → ℕ) (k end : ℕ) → end ≤ k → sumOf f (numbers k (end - k)) ≡ 0
+sum-done f k end h = ap (sumOf f) (numbers-none k (end - k) (omega arith)) ∙ sum-none f
 
 -- The figures of the numbers below n, each as often as it stands in a list.
 counted : (ℕ → ℕ) → List ℕ → ℕ → ℕ
