@@ -23,8 +23,7 @@ use Rattle.address.specs.Rules.Address.{address-own, address-number, lev
 use Rattle.address.specs.Rules.Parent.{parent-of}
 use Rattle.address.specs.Rules.Scan.{times, times-none, times-here, times-there, visits-only, visits-length}
 use Rattle.address.specs.Rules.Order.{born, born-cons, born-none, Told, Scanning, scanning-start, scanning-few}
-use Rattle.address.specs.Rules.Order.{scanning-waits}
-use Rattle.address.specs.Rules.Order.{scanning-next, scanning-done}
+use Rattle.address.specs.Rules.Order.{scanning-waits, scanning-next, scanning-done}
 
 -- ---- which of two buckets is first, by its cases
 

@@ -14,8 +14,7 @@ use Rattle.address.specs.declared.Image.{Image}
 use Rattle.address.specs.Rules.{Formed, NotAhead, buckets, visits, earlier}
 use Rattle.address.specs.Rules.Scan.{times, times-none, times-here, times-there, visits-once, visits-only}
 use Rattle.address.specs.Rules.Earlier.{first-believed, earlier-number, earlier-self, earlier-refutes, Each}
-use Rattle.address.specs.Rules.Earlier.{each-of}
-use Rattle.address.specs.Rules.Earlier.{Ordered, visits-each, visits-ordered}
+use Rattle.address.specs.Rules.Earlier.{each-of, Ordered, visits-each, visits-ordered}
 
 -- The first number of a list that passes a test, and another number if none does.
 pub firstOf : (ℕ → Bool) → ℕ → List ℕ → ℕ
@@ -77,11 +76,11 @@ module _ (test : ℕ → Bool) (none : ℕ) where
 
 -- ---- the first bad bucket in visit order, found in number order
 
--- Of the best bucket so far and the next, which is bad or not, the one to keep.
+-- Of the best bucket so far and the next: the next if it is bad and visited earlier.
 abbrev pub better : ℕ → ℕ → (ℕ → Bool) → ℕ → ℕ → ℕ
 better N believed bad best next = cond (bad next && earlier N believed next best) next best
 
--- The best of a bucket and of c numbers from the next on.
+-- The best of one bucket and the c numbers from the next on.
 pub bestFrom : ℕ → ℕ → (ℕ → Bool) → ℕ → ℕ → ℕ → ℕ
 bestFrom N believed bad zero next best = best
 bestFrom N believed bad (suc c) next best = bestFrom N believed bad c (suc next) (better N believed bad best next)
