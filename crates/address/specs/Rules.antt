@@ -155,7 +155,8 @@ handled N file zero queue = []
 handled N file (suc most) [] = []
 handled N file (suc most) (m ∷ queue) = m ∷ handled N file most (queue ++ answers N file m)
 
--- The messages of a scan in the order in which they are handled, with as much room as the file has buckets; its visits; its last round.
+-- The messages of a scan in the order in which they are handled, with as much room as the file has buckets; its visits;
+-- its last round.
 pub messages : ℕ → Image → Image → List Message
 messages N file image = handled N file (buckets N file) (opening N image)
 

@@ -1,7 +1,6 @@
 // The answer block of insert and search: written, and its forwards counted.
 use route::Walk;
 ghost use mathlib.Core.Path.{_≡_};
-ghost use mathlib.Core.List.{[]};
 ghost use Prim.Native.Nat.{_≤_};
 ghost use lib.ListN.{length};
 ghost use Rattle.route.specs.Way.{noted};
@@ -54,20 +53,6 @@ pub fn put_block(answer: &mut [u8], reply: u8, walk: Walk, flag: u8)
         0,
     ];
     layout::put(answer, 0, &source);
-}
-
-// Writes an answer block without a route.
-pub fn put_refusal(answer: &mut [u8], reply: u8)
-    requires { ⌜ length (now answer) ≡ 24 ⌝ }
-    ensures { λ _. ⌜ now (answer .exit) ≡ block reply [] 0 noPayload ⌝ }
-{
-    let none = Walk {
-        count: 0,
-        first: address::NO_BUCKET,
-        second: address::NO_BUCKET,
-        third: address::NO_BUCKET,
-    };
-    put_block(answer, reply, none, 0);
 }
 
 // How often the key of an answer block was sent on.

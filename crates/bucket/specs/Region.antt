@@ -1,14 +1,15 @@
 -- A bucket's region as document 01 lays it out: a head of 8 bytes, then S slots of 24 bytes. What its bytes hold, when
 -- it is sound, and the bytes of a list of rides.
-pub mod Judge
-pub mod Keep
-pub mod Rides
 pub mod Divide
 pub mod Encode
 pub mod Every
 pub mod Held
+pub mod Judge
+pub mod Keep
+pub mod Rides
 pub mod Single
 pub mod Sound
+pub mod Told
 pub mod Write
 use Prim.Native.Nat.{ℕ, zero, suc, _+_, _*_, _-_, _^_, _<_}
 use mathlib.Core.Path.{_≡_}
@@ -71,14 +72,16 @@ ridesFrom region k (suc c) = rideAt region k ∷ ridesFrom region (suc k) c
 pub ridesOf : List ℕ → List Ride
 ridesOf region = ridesFrom region 0 (countOf region)
 
--- The keys of rides; every key passes a test; no key stands twice.
+-- The keys of rides.
 pub keysOf : List Ride → List ℕ
 keysOf rides = map (λ ride. ride .key) rides
 
+-- Every key of a list passes a test.
 pub every : (ℕ → Bool) → List ℕ → Bool
 every test [] = true
 every test (key ∷ keys) = test key && every test keys
 
+-- No key of a list stands twice.
 pub distinct : List ℕ → Bool
 distinct [] = true
 distinct (key ∷ keys) = every (λ other. not (eqb key other)) keys && distinct keys
@@ -131,9 +134,10 @@ pub kept : (ℕ → Bool) → List Ride → List Ride
 kept test [] = []
 kept test (ride ∷ rides) = cond (test (ride .key)) (ride ∷ kept test rides) (kept test rides)
 
--- Two regions, at places of some bytes, once the first one's rides are divided between them at level j: those that a
--- test keeps stay, the others are in the second, both groups in their order and packed; freed slots are zero.
+-- Some bytes after the region of S slots at `old` was divided between it and the one at `new`, both then of level j:
+-- the rides whose keys pass the test stay, the others are in the new region, both groups in their order and packed;
+-- freed slots are zero.
 abbrev pub halved : (ℕ → Bool) → ℕ → ℕ → ℕ → ℕ → List ℕ → List ℕ
 halved own S j old new bytes =
-    edit new (encode S j (kept (λ key. not (own key)) (ridesOf (part old (slotAt S) bytes))))
-    (edit old (encode S j (kept own (ridesOf (part old (slotAt S) bytes)))) bytes)
+    let rides = ridesOf (part old (slotAt S) bytes) in
+    edit new (encode S j (kept (λ key. not (own key)) rides)) (edit old (encode S j (kept own rides)) bytes)

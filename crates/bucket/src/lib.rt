@@ -9,7 +9,14 @@ ghost use Rattle.address.specs.Room.{Room};
 ghost use Rattle.address.specs.Rules.{keeps};
 ghost use Rattle.layout.specs.Bytes.{leBytes, firstFrom, edit};
 ghost use Rattle.bucket.specs.Region.{slotAt, slotUsed, keyAt, headSound, soundWith, slotOf, slotBytes};
-ghost use Rattle.bucket.specs.Region.Single.{Chained, SlotsJudged, SoughtAt, fingerprint, latestOf};
+ghost use Rattle.bucket.specs.Region.Single.{fingerprints, fingerprint, latestOf, Chained};
+ghost use Rattle.bucket.specs.Region.Single.{SlotsJudged, SoughtAt};
+
+// How many fingerprints of keys there are.
+const FINGERPRINTS: usize = 512;
+
+// Up to so many slots are compared with one another, more are chained.
+const MOST_PAIRED: usize = 8;
 
 // Whether a head is well formed, of the level given and with a count of at most `slots`.
 fn head_sound(region: &[u8], slots: u32, level: u32) -> bool
@@ -109,12 +116,12 @@ fn slots_paired(
     Judged { sound: true, place }
 }
 
-// A number below 512 that keys of different rides and lifts seldom share.
+// A number, one of the fingerprints, that keys of different rides and lifts seldom share.
 fn fingerprint(key: u64) -> usize
-    ensures { λ r. ⌜ (r ≡ fingerprint key) × (r < 512) ⌝ }
+    ensures { λ r. ⌜ (r ≡ fingerprint key) × (r < fingerprints) ⌝ }
 {
     let folded = (key % 4294967296 + key / 4294967296) % 4294967296;
-    (folded * 1640531527 / 8388608 % 512) as usize
+    (folded * 1640531527 / 8388608 % FINGERPRINTS as u64) as usize
 }
 
 // One more than a slot of the first ones that holds a key, and 0 if none does: of the key's fingerprint they are the
@@ -157,8 +164,8 @@ fn slots_chained(
     latest: &mut [u8],
     before: &mut [u8],
 ) -> Judged
-    requires { ⌜ Room first level × (slotAt count ≤ length (now region)) × (count ≤ mostSlots) × (now latest ≡ replicate 512 0)
-        × (length (now before) ≡ mostSlots) ⌝ }
+    requires { ⌜ Room first level × (slotAt count ≤ length (now region)) × (count ≤ mostSlots)
+        × (now latest ≡ replicate fingerprints 0) × (length (now before) ≡ mostSlots) ⌝ }
     ensures { λ r. ⌜ SlotsJudged (keeps first bucket level) (now (region .entry)) count key (r .sound) (r .place) ⌝ }
 {
     let mut k = 0;
@@ -190,10 +197,10 @@ fn slots_sound(region: &[u8], count: usize, first: u32, bucket: u32, level: u32,
     requires { ⌜ Room first level × (slotAt count ≤ length (now region)) × (count ≤ mostSlots) ⌝ }
     ensures { λ r. ⌜ SlotsJudged (keeps first bucket level) (now (region .entry)) count key (r .sound) (r .place) ⌝ }
 {
-    if count <= 8 {
+    if count <= MOST_PAIRED {
         return slots_paired(region, count, first, bucket, level, key);
     }
-    let mut latest = [0u8; 512];
+    let mut latest = [0u8; FINGERPRINTS];
     let mut before = [0u8; address::MOST_SLOTS];
     slots_chained(
         region,

@@ -1,8 +1,10 @@
 -- A client table as document 01 lays it out: 1 to 256 records of 8 bytes, each a client's image. When it is sound, what
 -- an image is, and what joining leaves.
+pub mod Caller
 pub mod Keeping
 pub mod Laws
 pub mod Start
+pub mod Refusals
 use Prim.Native.Nat.{ℕ, _*_, _/_, _%_, _+_}
 use mathlib.Core.Bool.{Bool, cond, not, _&&_}
 use mathlib.Core.List.{List, [], _∷_, _++_}
@@ -49,6 +51,10 @@ tableSound table = lengthSound table && allBelow (recordSound table) (length tab
 -- The refusals by the table alone, in their order.
 pub tableRefusals : List ℕ → ℕ → List Refusal
 tableRefusals table client = refuse 2 (not (lengthSound table)) ∷ refuse 3 (not (exists table client)) ∷ []
+
+-- The refusals of a caller, in their order: 2, 3, 4.
+pub callerRefusals : List ℕ → ℕ → List Refusal
+callerRefusals table client = tableRefusals table client ++ (refuse 4 (not (recordSound table client)) ∷ [])
 
 -- The bytes of an image, and the table with a client's image written.
 pub imageBytes : Image → List ℕ

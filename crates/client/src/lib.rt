@@ -6,6 +6,7 @@ ghost use lib.ListN.{length};
 ghost use Rattle.layout.specs.Replies.{reply};
 ghost use Rattle.client.specs.Table.{Joined, imageOf, recordFormed, imageFormed, recordSound, tableRefusals};
 ghost use Rattle.client.specs.Table.{withImage, join};
+ghost use Rattle.client.specs.Table.Caller.{Called};
 
 // A client's record, judged.
 pub struct Client {
@@ -52,7 +53,7 @@ fn image_formed(image: Image) -> bool
 }
 
 // A client's record, read and judged.
-pub fn client_of(table: &[u8], client: u64) -> Client
+fn client_of(table: &[u8], client: u64) -> Client
     requires { ⌜ 8 * client + 8 ≤ length (now table) ⌝ }
     ensures { λ r. ⌜ (r .sound ≡ recordSound (now (table .entry)) client)
         × (r .image ≡ imageOf (now (table .entry)) client) ⌝ }
@@ -67,6 +68,41 @@ pub fn client_of(table: &[u8], client: u64) -> Client
         sound: record_formed(table, place) & image_formed(image),
         image,
     }
+}
+
+// A caller's refusal, or 0 and its image.
+pub struct Caller {
+    pub reply: u8,
+    pub image: Image,
+}
+
+// A caller that is refused.
+fn no_caller(reply: u8) -> Caller
+    ensures { λ r. ⌜ r .reply ≡ reply ⌝ }
+{
+    Caller {
+        reply,
+        image: Image {
+            level: 0,
+            pointer: 0,
+        },
+    }
+}
+
+// Judges table, number and record in the replies' order: 2, 3, 4, or 0.
+pub fn caller_of(table: &[u8], client: u64) -> Caller
+    ensures { λ r. ⌜ Called (now (table .entry)) client (r .reply) (r .image) ⌝ }
+{
+    let refused = table_refusal(table, client);
+    if refused != 0 {
+        return no_caller(refused);
+    }
+    let record = client_of(table, client);
+    if !record.sound {
+        return no_caller(4);
+    }
+    let image = record.image;
+    Caller { reply: 0, image }
 }
 
 // Writes a client's image.

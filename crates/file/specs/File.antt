@@ -52,27 +52,38 @@ bucketsOf file = buckets firstBuckets (stateOf file)
 pub stateFits : Image → ℕ → Bool
 stateFits state M = ltb (state .pointer) (span firstBuckets (state .level)) && leb (buckets firstBuckets state) M
 
+-- The header's fixed bytes: the mark, and zeros from byte 9 on.
+abbrev pub firstZero : ℕ
+firstZero = 9
+
+abbrev pub fixedBytes : List ℕ → Bool
+fixedBytes file = marked file 0 fileMark && allZero (part firstZero (16 - firstZero) file)
+
+-- Its figures, each as it stands there.
+abbrev pub figuresOf : List ℕ → Header
+figuresOf file = record {
+  sound = true;
+  state = stateOf file;
+  capacity = capacityOf file;
+  slots = slotsOf file;
+  most = mostOf file;
+}
+
+-- Their ranges, with the length.
+abbrev pub rangesFit : ℕ → Header → Bool
+rangesFit long header = figuresFit long (header .capacity) (header .slots) (header .most)
+    && stateFits (header .state) (header .most)
+
 -- A header is sound if marks, zeros, ranges and length hold, n < 2^i and 2^i + n ≤ M.
 pub headerSound : List ℕ → Bool
-headerSound file =
-    leb 16 (length file)
-    && (marked file 0 fileMark && allZero (part 9 7 file))
-    && figuresFit (length file) (capacityOf file) (slotsOf file) (mostOf file)
-    && stateFits (stateOf file) (mostOf file)
+headerSound file = leb 16 (length file) && fixedBytes file && rangesFit (length file) (figuresOf file)
 
 -- The header that the code reads and judges once in a call: the figures of a sound header, else none.
+abbrev pub noHeader : Header
+noHeader = record { sound = false; state = «at» 0 0; capacity = 0; slots = 0; most = 0 }
+
 pub headerOf : List ℕ → Header
-headerOf file =
-    cond (headerSound file)
-    (record {
-      sound = true;
-      state = stateOf file;
-      capacity = capacityOf file;
-      slots = slotsOf file;
-      most = mostOf
-          file;
-    })
-    (record { sound = false; state = «at» 0 0; capacity = 0; slots = 0; most = 0 })
+headerOf file = cond (headerSound file) (figuresOf file) noHeader
 
 -- Then M regions of 8 + 24·S bytes.
 abbrev pub startOf : ℕ → ℕ → ℕ
@@ -127,7 +138,7 @@ view file a =
 -- Create takes b, S and M and writes the sound file in state (0, 0) without records.
 pub headerBytes : Image → ℕ → ℕ → ℕ → List ℕ
 headerBytes state b S M = fileMark ++ (state .level ∷ b ∷ []) ++ leBytes 2 (state .pointer) ++ leBytes 2 M ++ (S ∷ [])
-    ++ replicate 7 0
+    ++ replicate (16 - firstZero) 0
 
 pub created : ℕ → ℕ → ℕ → List ℕ
 created b S M = headerBytes («at» 0 0) b S M ++ (encode S 0 [] ++ replicate ((M - 1) * (8 + 24 * S)) 0)

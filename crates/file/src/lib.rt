@@ -6,10 +6,11 @@ ghost use mathlib.Core.Bool.{true, false};
 ghost use Prim.Native.Nat.{_+_, _≤_, _<_};
 ghost use lib.ListN.{length};
 ghost use Rattle.address.specs.Limits.{mostBuckets, mostSlots};
-ghost use Rattle.bucket.specs.Region.{Ride, countOf, keyAt, slotOf};
-ghost use Rattle.file.specs.File.Judge.{Known};
-ghost use Rattle.file.specs.File.{fileLength, withRide, figuresFit, stateFits, headerOf, bucketsOf, startOf, regionOf};
-ghost use Rattle.file.specs.File.{bucketSoundIn};
+ghost use Rattle.layout.specs.Bytes.{allZero};
+ghost use Rattle.bucket.specs.Region.{Ride, slotAt, countOf, keyAt, slotOf};
+ghost use Rattle.file.specs.File.Judge.{Known, FiguresOf};
+ghost use Rattle.file.specs.File.{fileLength, figuresFit, stateFits, fixedBytes, rangesFit, noHeader, headerOf};
+ghost use Rattle.file.specs.File.{mostOf, bucketsOf, startOf, regionOf, bucketSoundIn, withRide};
 
 // A file's header, read and judged; of an unsound one nothing is known.
 pub struct Header {
@@ -22,8 +23,7 @@ pub struct Header {
 
 // The header of a file that has none.
 pub fn no_header() -> Header
-    ensures { λ r. ⌜ r
-        ≡ record { sound = false; state = record { level = 0; pointer = 0 }; capacity = 0; slots = 0; most = 0 } ⌝ }
+    ensures { λ r. ⌜ r ≡ noHeader ⌝ }
 {
     let state = Image {
         level: 0,
@@ -55,7 +55,7 @@ pub fn figures_fit(long: u64, capacity: u64, slots: u64, most: u64) -> bool
 }
 
 // Whether a state is one of a file of at most `most` buckets.
-fn state_fits(state: Image, most: u64) -> bool
+fn state_fits(state: Image, most: u32) -> bool
     requires { ⌜ (state .pointer < 65536) × (most ≤ mostBuckets) ⌝ }
     ensures { λ r. ⌜ r ≡ stateFits state most ⌝ }
 {
@@ -64,7 +64,50 @@ fn state_fits(state: Image, most: u64) -> bool
     }
     let span = address::span(address::FIRST_BUCKETS, state.level);
     let buckets = address::buckets(address::FIRST_BUCKETS, state);
-    (state.pointer < span) & (buckets as u64 <= most)
+    (state.pointer < span) & (buckets <= most)
+}
+
+// Whether the mark stands in a header, and the zeros.
+fn fixed_bytes(file: &[u8]) -> bool
+    requires { ⌜ 16 ≤ length (now file) ⌝ }
+    ensures { λ r. ⌜ r ≡ fixedBytes (now (file .entry)) ⌝ }
+{
+    layout::has_mark(file, 0, b"LF") & layout::is_zero(&file[9..16])
+}
+
+// The figures of a header, as they stand there.
+fn figures(file: &[u8]) -> Header
+    requires { ⌜ 16 ≤ length (now file) ⌝ }
+    ensures { λ r. ⌜ FiguresOf (now (file .entry)) r ⌝ }
+{
+    let state = Image {
+        level: layout::wide(file[2]) as u32,
+        pointer: layout::read2(file, 4) as u32,
+    };
+    Header {
+        sound: true,
+        state,
+        capacity: layout::wide(file[3]) as u32,
+        slots: layout::wide(file[8]) as u32,
+        most: layout::read2(file, 6) as u32,
+    }
+}
+
+// Whether a header's figures are in range, the state too, and the length is theirs.
+fn ranges_fit(long: u64, header: Header) -> bool
+    requires { ⌜ header .state .pointer < 65536 ⌝ }
+    ensures { λ r. ⌜ r ≡ rangesFit long header ⌝ }
+{
+    let fits = figures_fit(
+        long,
+        header.capacity as u64,
+        header.slots as u64,
+        header.most as u64,
+    );
+    if !fits {
+        return false;
+    }
+    state_fits(header.state, header.most)
 }
 
 // Reads a file's header and judges it.
@@ -75,30 +118,14 @@ pub fn header_of(file: &[u8]) -> Header
     if long < 16 {
         return no_header();
     }
-    let capacity = layout::wide(file[3]);
-    let most = layout::read2(file, 6);
-    let slots = layout::wide(file[8]);
-    let fixed = layout::has_mark(file, 0, b"LF") & layout::is_zero(&file[9..16]);
-    if !fixed {
+    if !fixed_bytes(file) {
         return no_header();
     }
-    if !figures_fit(long as u64, capacity, slots, most) {
+    let header = figures(file);
+    if !ranges_fit(long as u64, header) {
         return no_header();
     }
-    let state = Image {
-        level: layout::wide(file[2]) as u32,
-        pointer: layout::read2(file, 4) as u32,
-    };
-    if !state_fits(state, most) {
-        return no_header();
-    }
-    Header {
-        sound: true,
-        state,
-        capacity: capacity as u32,
-        slots: slots as u32,
-        most: most as u32,
-    }
+    header
 }
 
 // Where a region starts.
@@ -109,19 +136,34 @@ pub fn start(slots: u32, bucket: u32) -> usize
     16 + bucket as usize * (8 + 24 * slots as usize)
 }
 
+// A region of a file, as a part of it.
+pub fn region(file: &[u8], header: Header, number: u32) -> &[u8]
+    requires { ⌜ Known (now file) header × (number < mostOf (now file)) ⌝ }
+    ensures { λ r. ⌜ (now r ≡ regionOf (now (file .entry)) number) × (length (now r) ≡ slotAt (header .slots)) ⌝ }
+{
+    let at = start(header.slots, number);
+    let end = at + (8 + 24 * header.slots as usize);
+    &file[at..end]
+}
+
+// Whether a region of a file is all zero.
+pub fn region_zero(file: &[u8], header: Header, number: u32) -> bool
+    requires { ⌜ Known (now file) header × (number < mostOf (now file)) ⌝ }
+    ensures { λ r. ⌜ r ≡ allZero (regionOf (now (file .entry)) number) ⌝ }
+{
+    layout::is_zero(region(file, header, number))
+}
+
 // Judges a bucket of a file, and finds a key in it.
 pub fn judge_bucket(file: &[u8], header: Header, bucket: u32, key: u64) -> Judged
     requires { ⌜ Known (now file) header × (bucket < bucketsOf (now file)) ⌝ }
     ensures { λ r. ⌜ (r .sound ≡ bucketSoundIn (now (file .entry)) bucket)
         × (r .sound ≡ true → r .place ≡ slotOf (regionOf (now (file .entry)) bucket) key) ⌝ }
 {
-    let slots = header.slots;
-    let at = start(slots, bucket);
-    let end = at + (8 + 24 * slots as usize);
     let level = address::level_of(address::FIRST_BUCKETS, header.state, bucket);
     bucket::judge(
-        &file[at..end],
-        slots,
+        region(file, header, bucket),
+        header.slots,
         address::FIRST_BUCKETS,
         bucket,
         level,
@@ -139,7 +181,8 @@ pub fn bucket_sound(file: &[u8], header: Header, bucket: u32) -> bool
 
 // How many rides a sound bucket holds.
 pub fn held_in(file: &[u8], header: Header, bucket: u32) -> usize
-    requires { ⌜ Known (now file) header × (bucket < bucketsOf (now file)) × (bucketSoundIn (now file) bucket ≡ true) ⌝ }
+    requires { ⌜ Known (now file) header × (bucket < bucketsOf (now file))
+        × (bucketSoundIn (now file) bucket ≡ true) ⌝ }
     ensures { λ r. ⌜ (r ≡ countOf (regionOf (now (file .entry)) bucket)) × (r ≤ mostSlots) ⌝ }
 {
     let at = start(header.slots, bucket);
@@ -152,10 +195,7 @@ pub fn key_in(file: &[u8], header: Header, bucket: u32, slot: usize) -> u64
         × (slot < countOf (regionOf (now file) bucket)) ⌝ }
     ensures { λ r. ⌜ r ≡ keyAt (regionOf (now (file .entry)) bucket) slot ⌝ }
 {
-    let slots = header.slots;
-    let at = start(slots, bucket);
-    let end = at + (8 + 24 * slots as usize);
-    bucket::key_at(&file[at..end], slot)
+    bucket::key_at(region(file, header, bucket), slot)
 }
 
 // Places a ride in the first free slot of a sound bucket, and answers the count then held.

@@ -6,7 +6,7 @@ ghost use mathlib.Core.Bool.{true};
 ghost use Prim.Native.Nat.{_≤_, _<_};
 ghost use lib.ListN.{length};
 ghost use Rattle.address.specs.Limits.{firstBuckets, noBucket};
-ghost use Rattle.address.specs.Rules.{newborn};
+ghost use Rattle.address.specs.Rules.{splitting, newborn};
 ghost use Rattle.file.specs.File.{SplitOutcome, divided, split, bucketsOf, mostOf, withState, bucketSoundIn};
 ghost use Rattle.file.specs.File.Judge.{Known};
 
@@ -29,14 +29,14 @@ fn put_state(file: &mut [u8], state: Image)
 }
 
 // Divides bucket n of a file with the new bucket, and lets the state grow.
-fn divide(file: &mut [u8], header: Header, new: u32)
-    requires { ⌜ Known (now file) header × (bucketsOf (now file) < mostOf (now file)) × (new ≡ newborn firstBuckets (header .state))
-        × (bucketSoundIn (now file) (header .state .pointer) ≡ true) ⌝ }
+fn divide(file: &mut [u8], header: Header, old: u32, new: u32)
+    requires { ⌜ Known (now file) header × (bucketsOf (now file) < mostOf (now file))
+        × (old ≡ splitting (header .state)) × (new ≡ newborn firstBuckets (header .state))
+        × (bucketSoundIn (now file) old ≡ true) ⌝ }
     ensures { λ _. ⌜ now (file .exit) ≡ divided (now (file .entry)) ⌝ }
 {
     let slots = header.slots;
     let state = header.state;
-    let old = state.pointer;
     let from = file::start(slots, old);
     let to = file::start(slots, new);
     division::divide(
@@ -51,6 +51,39 @@ fn divide(file: &mut [u8], header: Header, new: u32)
     put_state(file, address::grown(address::FIRST_BUCKETS, state));
 }
 
+// Splits a sound bucket n of a file with room for one more: 7, or both buckets' numbers.
+fn split_into(file: &mut [u8], header: Header, old: u32, new: u32) -> SplitAnswer
+    requires { ⌜ Known (now file) header × (bucketsOf (now file) < mostOf (now file))
+        × (old ≡ splitting (header .state)) × (new ≡ newborn firstBuckets (header .state))
+        × (bucketSoundIn (now file) old ≡ true) ⌝ }
+    ensures { λ r. ⌜ record { answer = r .reply; old = r .«old_bucket»; new = r .«new_bucket»; file = now (file .exit) }
+        ≡ split (now (file .entry)) ⌝ }
+{
+    if !file::region_zero(file, header, new) {
+        return refused_split(7, new);
+    }
+    divide(file, header, old, new);
+    SplitAnswer {
+        reply: 0,
+        old_bucket: old,
+        new_bucket: new,
+    }
+}
+
+// Splits bucket n of a file with room for one more: 7, or both buckets' numbers.
+fn split_bucket(file: &mut [u8], header: Header) -> SplitAnswer
+    requires { ⌜ Known (now file) header × (bucketsOf (now file) < mostOf (now file)) ⌝ }
+    ensures { λ r. ⌜ record { answer = r .reply; old = r .«old_bucket»; new = r .«new_bucket»; file = now (file .exit) }
+        ≡ split (now (file .entry)) ⌝ }
+{
+    let old = address::splitting(header.state);
+    if !file::bucket_sound(file, header, old) {
+        return refused_split(7, old);
+    }
+    let new = address::newborn(address::FIRST_BUCKETS, header.state);
+    split_into(file, header, old, new)
+}
+
 // Splits bucket n: 5, 10, 7, or both buckets' numbers.
 pub fn split(file: &mut [u8]) -> SplitAnswer
     ensures { λ r. ⌜ record { answer = r .reply; old = r .«old_bucket»; new = r .«new_bucket»; file = now (file .exit) }
@@ -60,27 +93,10 @@ pub fn split(file: &mut [u8]) -> SplitAnswer
     if !header.sound {
         return refused_split(5, address::NO_BUCKET);
     }
-    let state = header.state;
-    if header.most <= address::buckets(address::FIRST_BUCKETS, state) {
+    if header.most <= address::buckets(address::FIRST_BUCKETS, header.state) {
         return refused_split(10, address::NO_BUCKET);
     }
-    let old = state.pointer;
-    if !file::bucket_sound(file, header, old) {
-        return refused_split(7, old);
-    }
-    let new = address::newborn(address::FIRST_BUCKETS, state);
-    let slots = header.slots;
-    let at = file::start(slots, new);
-    let end = at + (8 + 24 * slots as usize);
-    if !layout::is_zero(&file[at..end]) {
-        return refused_split(7, new);
-    }
-    divide(file, header, new);
-    SplitAnswer {
-        reply: 0,
-        old_bucket: old,
-        new_bucket: new,
-    }
+    split_bucket(file, header)
 }
 
 // A refused split's answer.

@@ -12,6 +12,7 @@ use Rattle.layout.specs.Bytes.{part, leAt}
 use Rattle.layout.specs.Bytes.Edit.{part-is, length-part}
 use Rattle.file.specs.File.{view, startOf, slotsOf, bucketsOf, headerSound, headerOf, bucketSoundIn}
 use Rattle.file.specs.File.Judge.{Known, known, header-flag}
+use Rattle.file.specs.declared.Header.{Header}
 use Rattle.file.specs.File.Region.{view-header, view-high, view-unsound, view-fits, view-used}
 
 pub viewLength : List ℕ → ℕ → ℕ
@@ -47,38 +48,41 @@ module _ (file : List ℕ) (a : ℕ) (some : 0 < length (view file a)) where
           refl
       by-header false e = absurd (none (view-header file a e))
 
--- the start and the length, by whether the view has a byte
-pub view-empty : (file : List ℕ) (a n : ℕ) → n ≡ length (view file a) → n ≡ 0
-    → (0 ≡ viewStart file a) × (0 ≡ viewLength file a)
-unfolding viewStart viewLength
-view-empty file a n e z = (
-  ap (λ (t : Bool). cond t 0 (startOf (slotsOf file) a + 8)) (sym (eq-eqb (length (view file a)) 0 (sym e ∙ z))),
-  sym
-      z ∙ e,
-)
+-- the start and the length, by whether the part that is the view has a byte
+module _ (file : List ℕ) (a : ℕ) {found : List ℕ} (is : found ≡ view file a) where
+  pub view-length : length found ≡ viewLength file a
+  unfolding viewLength
+  view-length = ap length is
 
--- the bounds that a view with a byte gives
-pub viewed-few : (file : List ℕ) (a n : ℕ) → n ≡ length (view file a) → (n ≡ 0 → ⊥)
-    → (headerOf file .slots ≤ mostSlots) × (a ≤ mostBuckets)
-viewed-few file a n e some =
-    let v = viewed file a (omega (arith, e, some)) in (
-      omega (arith, v .seen .slots, v .seen .ranges .figured .few-slots),
-      omega
-          (arith, v .exists, v .seen .ranges .few, v .seen .ranges .figured .few-buckets),
-    )
+  module _ (empty : length found ≡ 0) where
+    pub empty-start : 0 ≡ viewStart file a
+    unfolding viewStart viewLength
+    empty-start = ap (λ (t : Bool). cond t 0 (startOf (slotsOf file) a + 8))
+        (sym (eq-eqb (length (view file a)) 0 (sym (ap length is) ∙ empty)))
 
-pub view-start : (file : List ℕ) (a n : ℕ) → n ≡ length (view file a) → (n ≡ 0 → ⊥)
-    → startOf (headerOf file .slots) a + 8 ≡ viewStart file a
-unfolding viewStart viewLength
-view-start file a n e some =
-    let v = viewed file a (omega (arith, e, some)) in
-    ap (λ (S : ℕ). startOf S a + 8) (v .seen .slots)
-    ∙ ap (λ (t : Bool). cond t 0 (startOf (slotsOf file) a + 8))
-    (sym (ne-eqb (length (view file a)) 0 (λ z. some (e ∙ z))))
+    pub empty-length : 0 ≡ viewLength file a
+    empty-length = sym empty ∙ view-length
 
-pub view-length : (file : List ℕ) (a n : ℕ) → n ≡ length (view file a) → n ≡ viewLength file a
-unfolding viewLength
-view-length file a n e = e
+  module _ (some : length found ≡ 0 → ⊥) where
+    seen : Viewed file a
+    seen = viewed file a (omega (arith, ap length is))
+
+    -- the bounds that its place asks, and the place
+    pub viewed-bucket : a ≤ mostBuckets
+    viewed-bucket = omega (arith, seen .exists, seen .seen .ranges .few, seen .seen .ranges .figured .few-buckets)
+
+    module _ {header : Header} (read : header ≡ headerOf file) where
+      slots : header .slots ≡ slotsOf file
+      slots = ap (λ (h : Header). h .slots) read ∙ seen .seen .slots
+
+      pub viewed-slots : header .slots ≤ mostSlots
+      viewed-slots = omega (arith, slots, seen .seen .ranges .figured .few-slots)
+
+      pub view-start : {at : ℕ} → at ≡ startOf (header .slots) a → at + 8 ≡ viewStart file a
+      unfolding viewStart viewLength
+      view-start place = ap (λ (n : ℕ). n + 8) (place ∙ ap (λ (S : ℕ). startOf S a) slots)
+          ∙ ap (λ (t : Bool). cond t 0 (startOf (slotsOf file) a + 8))
+          (sym (ne-eqb (length (view file a)) 0 (λ z. some (ap length is ∙ z))))
 
 -- the part of the file there is the view
 module _ (file : List ℕ) (a : ℕ) where

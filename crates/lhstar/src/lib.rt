@@ -5,10 +5,10 @@ use upkeep::CheckAnswer;
 ghost use mathlib.Core.Path.{_≡_};
 ghost use Rattle.address.specs.Limits.{firstBuckets};
 ghost use Rattle.address.specs.Rules.{parent};
-ghost use Rattle.client.specs.Table.{Joined, join};
-ghost use Rattle.file.specs.File.{Checked, Created, SplitOutcome, check, create, split};
+ghost use Rattle.client.specs.Table.{join};
+ghost use Rattle.file.specs.File.{check, create, split};
 ghost use Rattle.answer.specs.Answer.{forwardsIn};
-ghost use Rattle.ride.specs.Call.{Outcome, search, insert};
+ghost use Rattle.ride.specs.Call.{search, insert};
 ghost use Rattle.scan.specs.Scan.{leaving, scan};
 ghost use Rattle.lhstar.specs.View.{viewStart, viewLength};
 

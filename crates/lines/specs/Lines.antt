@@ -4,6 +4,7 @@ pub mod Decimal
 pub mod Edit
 pub mod Examples
 pub mod Laws
+pub mod Written
 use Prim.Native.Nat.{ℕ, zero, suc, _+_, _*_, _/_, _%_, _≤_}
 use mathlib.Core.Path.{_≡_}
 use mathlib.Core.Bool.{cond}

@@ -6,17 +6,17 @@ pub mod Left
 pub mod Replied
 use Prim.Native.Nat.{ℕ, suc}
 use mathlib.Core.Bool.{Bool, cond, not, _&&_}
-use mathlib.Core.List.{List, []}
+use mathlib.Core.List.{List}
 use lib.Dec.{ltb, eqb}
 use lib.ListN.{length}
 use Rattle.address.specs.Limits.{firstBuckets}
 use Rattle.address.specs.Rules.{imageAfter}
 use Rattle.layout.specs.Replies.{reply}
-use Rattle.bucket.specs.Region.{countOf, rideAt, slotOf, every}
+use Rattle.bucket.specs.Region.{countOf, rideAt, slotOf}
 use Rattle.client.specs.Table.{imageOf, withImage}
-use Rattle.file.specs.File.{capacityOf, stateOf, regionOf, bucketSoundIn, withRide}
+use Rattle.file.specs.File.{capacityOf, stateOf, regionOf, withRide}
 use Rattle.answer.specs.Answer.{block, noPayload}
-use Rattle.route.specs.Way.{early, cut, wayOf, ownOf, held, full}
+use Rattle.route.specs.Way.{onWay, metOn, wayOf, ownOf, held, full}
 
 -- What a key call leaves: its reply, the answer block, the client table and the file.
 pub record Outcome : Type 0 where
@@ -34,13 +34,10 @@ adjustedTable file table client key = withImage table client
 -- comes to once the key's own bucket is reached.
 pub routed : Bool → List ℕ → List ℕ → ℕ → ℕ → List ℕ → Outcome → Outcome
 routed fits file table client key answer reached =
-    let r = reply (early file table client) 0 in
-    let way = wayOf file (imageOf table client) key in
+    let r = reply (onWay file table client key) 0 in
     cond (not fits) (record { answer = 14; block = answer; table = table; file = file })
-    (cond (not (eqb r 0)) (record { answer = r; block = block r [] 0 noPayload; table = table; file = file })
-    (cond (not (every (bucketSoundIn file) way))
-    (record { answer = 7; block = block 7 (cut (bucketSoundIn file) way) 0 noPayload; table = table; file = file })
-    reached))
+    (cond (eqb r 0) reached
+    (record { answer = r; block = block r (metOn file table client key) 0 noPayload; table = table; file = file }))
 
 -- A search that has reached the key's own bucket: 0 with the payload found, or 1.
 pub searched : List ℕ → List ℕ → ℕ → ℕ → Outcome

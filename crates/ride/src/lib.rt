@@ -1,12 +1,33 @@
 // Insert and search: what they come to, and what is written.
-use route::End;
-use route::Opened;
+use file::Header;
+use route::Reached;
+use route::Walk;
 ghost use mathlib.Core.Path.{_≡_};
-ghost use mathlib.Core.Bool.{cond};
+ghost use mathlib.Core.Bool.{true, cond};
+ghost use Prim.Native.Nat.{_+_, _≤_, _<_};
 ghost use lib.ListN.{length};
 ghost use lib.Dec.{ltb};
+ghost use Rattle.bucket.specs.Region.{Ride, countOf, rideAt};
+ghost use Rattle.file.specs.File.{slotsOf, bucketsOf, regionOf, bucketSoundIn, withRide};
+ghost use Rattle.file.specs.File.Judge.{Known};
+ghost use Rattle.route.specs.Way.{noted};
+ghost use Rattle.route.specs.Way.Reach.{AtOwn};
+ghost use Rattle.answer.specs.Answer.{block, noPayload};
 ghost use Rattle.ride.specs.Call.{Outcome, searched, search, placed, insert};
-ghost use Rattle.ride.specs.Call.After.{AtOwn};
+
+// Writes the block of a search that found its key, with the payload in the key's slot.
+fn put_found(file: &[u8], header: Header, bucket: u32, place: usize, walk: Walk, answer: &mut [u8])
+    requires { ⌜ (length (now answer) ≡ 24) × (walk .count ≤ 3) × Known (now file) header
+        × (bucket < bucketsOf (now file)) × (place < slotsOf (now file)) ⌝ }
+    ensures { λ _. ⌜ now (answer .exit)
+        ≡ block 0 (noted walk) 0 (rideAt (regionOf (now (file .entry)) bucket) place .payload) ⌝ }
+{
+    answer::put_block(answer, 0, walk, 0);
+    let at = file::start(header.slots, bucket);
+    let from = at + (18 + 24 * place);
+    let to = from + 14;
+    layout::put(answer, 10, &file[from..to]);
+}
 
 // A search that reached the key's own bucket: the payload found, or none.
 fn finish_search(
@@ -15,26 +36,21 @@ fn finish_search(
     client: u64,
     key: u64,
     answer: &mut [u8],
-    opened: Opened,
-    end: End,
+    own: Reached,
 ) -> u8
     requires { ⌜ (length (now answer) ≡ 24)
-        × AtOwn (now file) (now table) client key (opened .header) (opened .image) (end .walk) (end .bucket)
-        (end .place) ⌝ }
+        × AtOwn (now file) (now table) client key (own .header) (own .next) (own .walk) (own .bucket) (own .place) ⌝ }
     ensures { λ r. ⌜
         record { answer = r; block = now (answer .exit); table = now (table .exit); file = now (file .entry) }
         ≡ searched (now (file .entry)) (now (table .entry)) client key ⌝ }
 {
-    let header = opened.header;
-    let walk = end.walk;
-    let count = file::held_in(file, header, end.bucket);
-    route::adjust(table, client, header, opened.image, walk);
-    if end.place < count {
-        answer::put_block(answer, 0, walk, 0);
-        let at = file::start(header.slots, end.bucket);
-        let from = at + (18 + 24 * end.place);
-        let to = from + 14;
-        layout::put(answer, 10, &file[from..to]);
+    let header = own.header;
+    let walk = own.walk;
+    let count = file::held_in(file, header, own.bucket);
+    let held = own.place < count;
+    client::put_image(table, client, own.next);
+    if held {
+        put_found(file, header, own.bucket, own.place, walk, answer);
         return 0;
     }
     answer::put_block(answer, 1, walk, 0);
@@ -50,18 +66,13 @@ pub fn search(file: &[u8], table: &mut [u8], client: u64, key: u64, answer: &mut
     if answer.len() != 24 {
         return 14;
     }
-    let opened = route::open(file, table, client);
-    let refused = opened.reply;
+    let own = route::reach(file, table, client, key);
+    let refused = own.reply;
     if refused != 0 {
-        answer::put_refusal(answer, refused);
+        answer::put_block(answer, refused, own.walk, 0);
         return refused;
     }
-    let end = route::walk_route(file, opened.header, opened.image, key);
-    if !end.sound {
-        answer::put_block(answer, 7, end.walk, 0);
-        return 7;
-    }
-    finish_search(file, table, client, key, answer, opened, end)
+    finish_search(file, table, client, key, answer, own)
 }
 
 // The flag of an insert: 1 if more rides are held than the capacity.
@@ -74,6 +85,28 @@ fn over_capacity(capacity: u32, held: usize) -> u8
     0
 }
 
+// Places a ride in the key's own bucket, and writes the block of an insert that did.
+fn put_placed(
+    file: &mut [u8],
+    header: Header,
+    bucket: u32,
+    count: usize,
+    key: u64,
+    payload: &[u8],
+    walk: Walk,
+    answer: &mut [u8],
+)
+    requires { ⌜ (length (now answer) ≡ 24) × (length (now payload) ≡ 14) × (walk .count ≤ 3)
+        × Known (now file) header × (bucket < bucketsOf (now file)) × (bucketSoundIn (now file) bucket ≡ true)
+        × (count ≡ countOf (regionOf (now file) bucket)) × (count < header .slots) ⌝ }
+    ensures { λ _. ⌜ (now (file .exit)
+        ≡ withRide (now (file .entry)) bucket (record { key = key; payload = now (payload .entry) }))
+        × (now (answer .exit) ≡ block 0 (noted walk) (cond (ltb (header .capacity) (count + 1)) 1 0) noPayload) ⌝ }
+{
+    let after = file::place_ride(file, header, bucket, count, key, payload);
+    answer::put_block(answer, 0, walk, over_capacity(header.capacity, after));
+}
+
 // An insert that reached the key's own bucket: held already, no slot free, or placed.
 fn finish_insert(
     file: &mut [u8],
@@ -82,22 +115,20 @@ fn finish_insert(
     key: u64,
     payload: &[u8],
     answer: &mut [u8],
-    opened: Opened,
-    end: End,
+    own: Reached,
 ) -> u8
-    requires { ⌜ (length (now answer) ≡ 24)
-        × AtOwn (now file) (now table) client key (opened .header) (opened .image) (end .walk) (end .bucket)
-        (end .place) × (length (now payload) ≡ 14) ⌝ }
+    requires { ⌜ (length (now answer) ≡ 24) × (length (now payload) ≡ 14)
+        × AtOwn (now file) (now table) client key (own .header) (own .next) (own .walk) (own .bucket) (own .place) ⌝ }
     ensures { λ r. ⌜
         record { answer = r; block = now (answer .exit); table = now (table .exit); file = now (file .exit) }
         ≡ placed (now (file .entry)) (now (table .entry)) client key (now (payload .entry)) ⌝ }
 {
-    let header = opened.header;
-    let walk = end.walk;
-    let count = file::held_in(file, header, end.bucket);
-    let held = end.place < count;
+    let header = own.header;
+    let walk = own.walk;
+    let count = file::held_in(file, header, own.bucket);
+    let held = own.place < count;
     let full = header.slots as usize <= count;
-    route::adjust(table, client, header, opened.image, walk);
+    client::put_image(table, client, own.next);
     if held {
         answer::put_block(answer, 8, walk, 0);
         return 8;
@@ -106,8 +137,7 @@ fn finish_insert(
         answer::put_block(answer, 9, walk, 0);
         return 9;
     }
-    let after = file::place_ride(file, header, end.bucket, count, key, payload);
-    answer::put_block(answer, 0, walk, over_capacity(header.capacity, after));
+    put_placed(file, header, own.bucket, count, key, payload, walk, answer);
     0
 }
 
@@ -128,16 +158,11 @@ pub fn insert(
     if !fits {
         return 14;
     }
-    let opened = route::open(file, table, client);
-    let refused = opened.reply;
+    let own = route::reach(file, table, client, key);
+    let refused = own.reply;
     if refused != 0 {
-        answer::put_refusal(answer, refused);
+        answer::put_block(answer, refused, own.walk, 0);
         return refused;
     }
-    let end = route::walk_route(file, opened.header, opened.image, key);
-    if !end.sound {
-        answer::put_block(answer, 7, end.walk, 0);
-        return 7;
-    }
-    finish_insert(file, table, client, key, payload, answer, opened, end)
+    finish_insert(file, table, client, key, payload, answer, own)
 }

@@ -4,27 +4,27 @@ pub mod Keeping
 pub mod Noted
 pub mod Open
 pub mod Own
+pub mod Reach
 pub mod Route
 use Prim.Native.Nat.{ℕ}
-use mathlib.Core.Bool.{Bool, true, cond, not, _&&_}
+use mathlib.Core.Bool.{Bool, cond, not}
 use mathlib.Core.List.{List, [], _∷_, _++_}
 use lib.Dec.{leb, ltb, eqb}
 use lib.ListN.{take}
 use Rattle.address.specs.Limits.{firstBuckets}
 use Rattle.address.specs.declared.Image.{Image}
 use Rattle.address.specs.Rules.{buckets, address, level, adjusted, route}
-use Rattle.layout.specs.Replies.{Refusal, refuse}
-use Rattle.bucket.specs.Region.{countOf, slotOf}
-use Rattle.client.specs.Table.{imageOf, recordSound, tableRefusals}
-use Rattle.file.specs.File.{slotsOf, stateOf, bucketsOf, headerSound, regionOf}
+use Rattle.layout.specs.Replies.{Refusal, refuse, reply}
+use Rattle.bucket.specs.Region.{countOf, slotOf, every}
+use Rattle.client.specs.Table.{imageOf, callerRefusals}
+use Rattle.file.specs.File.{slotsOf, stateOf, bucketsOf, headerSound, regionOf, bucketSoundIn}
 use Rattle.route.specs.declared.Walk.{Walk}
 
 -- 2, 3, 4, 5, 6, before any route.
 pub early : List ℕ → List ℕ → ℕ → List Refusal
 early file table client =
-    tableRefusals table client
-    ++ (refuse 4 (not (recordSound table client))
-    ∷ refuse 5 (not (headerSound file))
+    callerRefusals table client
+    ++ (refuse 5 (not (headerSound file))
     ∷ refuse 6 (ltb (bucketsOf file) (buckets firstBuckets (imageOf table client)))
     ∷ [])
 
@@ -36,6 +36,16 @@ cut test (a ∷ way) = a ∷ cond (test a) (cut test way) []
 -- The route of a key from a client's image: the rules' route.
 pub wayOf : List ℕ → Image → ℕ → List ℕ
 wayOf file image key = route firstBuckets (stateOf file) image key
+
+-- The refusals on the way to the key's own bucket, 7 behind the early ones; and the buckets met by then.
+pub onWay : List ℕ → List ℕ → ℕ → ℕ → List Refusal
+onWay file table client key =
+    early file table client
+    ++ (refuse 7 (not (every (bucketSoundIn file) (wayOf file (imageOf table client) key))) ∷ [])
+
+pub metOn : List ℕ → List ℕ → ℕ → ℕ → List ℕ
+metOn file table client key = cond (eqb (reply (early file table client) 0) 0)
+    (cut (bucketSoundIn file) (wayOf file (imageOf table client) key)) []
 
 -- The buckets that a walk has noted, at most three.
 pub noted : Walk → List ℕ

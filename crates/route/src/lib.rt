@@ -3,20 +3,17 @@ use address::Fate;
 use address::Image;
 use file::Header;
 ghost use mathlib.Core.Path.{_≡_};
-ghost use mathlib.Core.Bool.{true};
 ghost use mathlib.Core.List.{_++_, _∷_, []};
-ghost use Prim.Native.Nat.{_+_, _*_, _≤_, _<_};
-ghost use lib.ListN.{length};
+ghost use Prim.Native.Nat.{_+_, _≤_};
 ghost use Rattle.address.specs.Limits.{firstBuckets, mostLevel, mostBuckets};
 ghost use Rattle.address.specs.Room.{ImageRoom};
 ghost use Rattle.address.specs.Rules.{Formed, NotAhead};
-ghost use Rattle.client.specs.Table.{withImage};
-ghost use Rattle.bucket.specs.Region.{slotOf};
-ghost use Rattle.file.specs.File.{stateOf, regionOf};
+ghost use Rattle.file.specs.File.{stateOf};
 ghost use Rattle.file.specs.File.Judge.{Known};
 ghost use Rattle.layout.specs.Replies.{reply};
 ghost use Rattle.route.specs.Way.{wayOf, early, noted, adjustedBy};
 ghost use Rattle.route.specs.Way.Open.{Opening};
+ghost use Rattle.route.specs.Way.Reach.{Followed, Reaching};
 ghost use Rattle.route.specs.Way.Route.{Walked};
 
 // The buckets that a key has met, at most three.
@@ -27,12 +24,24 @@ pub struct Walk {
     pub third: u32,
 }
 
-// Where a walk ended, whether all its buckets were sound, and then the slot that holds the key there, or the count.
+// Where a walk ended: 7 at an unsound bucket, else 0 and then the slot that holds the key there, or the count.
 pub struct End {
-    pub sound: bool,
+    pub reply: u8,
     pub bucket: u32,
     pub place: usize,
     pub walk: Walk,
+}
+
+// No bucket yet.
+fn no_walk() -> Walk
+    ensures { λ r. ⌜ r .count ≡ 0 ⌝ }
+{
+    Walk {
+        count: 0,
+        first: address::NO_BUCKET,
+        second: address::NO_BUCKET,
+        third: address::NO_BUCKET,
+    }
 }
 
 // One bucket more.
@@ -66,19 +75,15 @@ fn note(walk: Walk, bucket: u32) -> Walk
 }
 
 // Walks a key's route from a client's image until a bucket keeps it or is unsound.
-pub fn walk_route(file: &[u8], header: Header, image: Image, key: u64) -> End
-    requires { ⌜ Known (now file) header × (image .level ≤ mostLevel) × Formed firstBuckets image × NotAhead firstBuckets (stateOf (now file)) image ⌝ }
+fn walk_route(file: &[u8], header: Header, image: Image, key: u64) -> End
+    requires { ⌜ Known (now file) header × (image .level ≤ mostLevel) × Formed firstBuckets image
+        × NotAhead firstBuckets (stateOf (now file)) image ⌝ }
     ensures { λ r. ⌜ Walked (now (file .entry)) key (wayOf (now (file .entry)) image key) (r .walk) (r .bucket)
-        (r .sound) × (r .sound ≡ true → r .place ≡ slotOf (regionOf (now (file .entry)) (r .bucket)) key) ⌝ }
+        (r .place) (r .reply) ⌝ }
 {
     let state = header.state;
     let mut bucket = address::address(address::FIRST_BUCKETS, image, key);
-    let mut walk = Walk {
-        count: 0,
-        first: address::NO_BUCKET,
-        second: address::NO_BUCKET,
-        third: address::NO_BUCKET,
-    };
+    let mut walk = no_walk();
     loop {
         walk = note(walk, bucket);
         let judged = file::judge_bucket(file, header, bucket, key);
@@ -87,7 +92,7 @@ pub fn walk_route(file: &[u8], header: Header, image: Image, key: u64) -> End
         match fate {
             Fate::Keep => {
                 return End {
-                    sound: true,
+                    reply: 0,
                     bucket,
                     place: judged.place,
                     walk,
@@ -98,7 +103,7 @@ pub fn walk_route(file: &[u8], header: Header, image: Image, key: u64) -> End
             }
             Fate::Unsound => {
                 return End {
-                    sound: false,
+                    reply: 7,
                     bucket,
                     place: 0,
                     walk,
@@ -131,28 +136,25 @@ fn not_opened(reply: u8) -> Opened
     }
 }
 
-// Judges table, client, record, header and image in the replies' order: 2, 3, 4, 5, 6, or 0.
+// Judges caller, header and image in the replies' order: 2 to 4, 5, 6, or 0.
 pub fn open(file: &[u8], table: &[u8], client: u64) -> Opened
     ensures { λ r. ⌜ (r .reply ≡ reply (early (now (file .entry)) (now (table .entry)) client) 0)
         × (r .reply ≡ 0 → Opening (now (file .entry)) (now (table .entry)) client (r .header) (r .image)) ⌝ }
 {
-    let refused = client::table_refusal(table, client);
+    let caller = client::caller_of(table, client);
+    let refused = caller.reply;
     if refused != 0 {
         return not_opened(refused);
-    }
-    let record = client::client_of(table, client);
-    if !record.sound {
-        return not_opened(4);
     }
     let header = file::header_of(file);
     if !header.sound {
         return not_opened(5);
     }
-    let image = record.image;
+    let image = caller.image;
     let state = header.state;
-    if address::buckets(address::FIRST_BUCKETS, state)
-        < address::buckets(address::FIRST_BUCKETS, image)
-    {
+    let ahead = address::buckets(address::FIRST_BUCKETS, state)
+        < address::buckets(address::FIRST_BUCKETS, image);
+    if ahead {
         return not_opened(6);
     }
     Opened {
@@ -162,16 +164,77 @@ pub fn open(file: &[u8], table: &[u8], client: u64) -> Opened
     }
 }
 
-// Writes a client's image after its first bucket did or did not keep the key.
-pub fn adjust(table: &mut [u8], client: u64, header: Header, image: Image, walk: Walk)
-    requires { ⌜ (8 * client + 8 ≤ length (now table)) × ImageRoom firstBuckets (header .state)
-        × (walk .first ≤ mostBuckets) × (adjustedBy (header .state) image walk .level < 256)
-        × (adjustedBy (header .state) image walk .pointer < 65536) ⌝ }
-    ensures { λ _. ⌜ now (table .exit)
-        ≡ withImage (now (table .entry)) client (adjustedBy (header .state) image walk) ⌝ }
+// A client's image after its first bucket did or did not keep the key.
+fn adjust(state: Image, image: Image, walk: Walk) -> Image
+    requires { ⌜ ImageRoom firstBuckets state × (walk .first ≤ mostBuckets) ⌝ }
+    ensures { λ r. ⌜ r ≡ adjustedBy state image walk ⌝ }
 {
     let first = walk.first;
-    let level = address::level_of(address::FIRST_BUCKETS, header.state, first);
-    let next = address::adjusted(address::FIRST_BUCKETS, image, first, level, walk.count == 1);
-    client::put_image(table, client, next);
+    let level = address::level_of(address::FIRST_BUCKETS, state, first);
+    address::adjusted(address::FIRST_BUCKETS, image, first, level, walk.count == 1)
+}
+
+// A key's way: its refusal and the buckets met by then; or 0 at the key's own bucket, with the slot that holds the key
+// there, or the count, and the client's next image.
+pub struct Reached {
+    pub reply: u8,
+    pub header: Header,
+    pub next: Image,
+    pub bucket: u32,
+    pub place: usize,
+    pub walk: Walk,
+}
+
+// Follows a key's route from a client's image: 7, or 0.
+fn follow(file: &[u8], header: Header, image: Image, key: u64) -> Reached
+    requires { ⌜ Known (now file) header × (image .level ≤ mostLevel) × Formed firstBuckets image
+        × NotAhead firstBuckets (stateOf (now file)) image ⌝ }
+    ensures { λ r. ⌜ Followed (now (file .entry)) key image (r .header) (r .next) (r .walk) (r .bucket) (r .place)
+        (r .reply) ⌝ }
+{
+    let end = walk_route(file, header, image, key);
+    let stopped = end.reply;
+    let walk = end.walk;
+    if stopped != 0 {
+        return Reached {
+            reply: stopped,
+            header,
+            next: image,
+            bucket: end.bucket,
+            place: end.place,
+            walk,
+        };
+    }
+    let next = adjust(header.state, image, walk);
+    Reached {
+        reply: 0,
+        header,
+        next,
+        bucket: end.bucket,
+        place: end.place,
+        walk,
+    }
+}
+
+// Opens a call and follows its key's route: 2 to 6, 7, or 0.
+pub fn reach(file: &[u8], table: &[u8], client: u64, key: u64) -> Reached
+    ensures { λ r. ⌜ Reaching (now (file .entry)) (now (table .entry)) client key (r .header) (r .next) (r .walk)
+        (r .bucket) (r .place) (r .reply) ⌝ }
+{
+    let opened = open(file, table, client);
+    let refused = opened.reply;
+    let header = opened.header;
+    let image = opened.image;
+    if refused != 0 {
+        let walk = no_walk();
+        return Reached {
+            reply: refused,
+            header,
+            next: image,
+            bucket: 0,
+            place: 0,
+            walk,
+        };
+    }
+    follow(file, header, image, key)
 }

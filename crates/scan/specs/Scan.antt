@@ -73,9 +73,11 @@ leaving r visits matches =
     }
 
 -- A refused scan answers counts 0, and leaves both lists untouched.
+abbrev pub refusal : ℕ → ℕ → ScanAnswer
+refusal r a = record { reply = r; bucket = a; visits = 0; matches = 0 }
+
 pub refused : ℕ → ℕ → List ℕ → List ℕ → Scanned
-refused r a visits matches =
-    record { answer = r; bucket = a; visits = 0; matches = 0; visitList = visits; matchList = matches }
+refused r a visits matches = leaving (refusal r a) visits matches
 
 -- A scan of the buckets on a way: 7 (first in visit order), 12 (match list shorter than the matches), else it writes
 -- visited bucket numbers and matching keys and answers both counts; list entries past them keep their content. The

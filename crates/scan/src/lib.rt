@@ -10,7 +10,7 @@ ghost use Rattle.layout.specs.Bytes.{edit};
 ghost use Rattle.bucket.specs.Region.{every};
 ghost use Rattle.file.specs.File.{bucketsOf, bucketSoundIn};
 ghost use Rattle.file.specs.File.Judge.{Known};
-ghost use Rattle.scan.specs.Scan.{ofLift, keysIn, visitsOf, collected, leaving, scan};
+ghost use Rattle.scan.specs.Scan.{ofLift, keysIn, visitsOf, refusal, collected, leaving, scan};
 ghost use Rattle.scan.specs.Scan.Bits.{bitsOf, selected, selectedOn};
 ghost use Rattle.scan.specs.Scan.Fill.{Fitting};
 ghost use Rattle.scan.specs.Scan.Tally.{WayJudged};
@@ -48,7 +48,8 @@ fn of_lift(key: u64, lift: u32) -> bool
 
 // Which keys of a sound bucket are of a lift, a bit for each, the first key's the lowest.
 fn match_bits(file: &[u8], header: Header, bucket: u32, lift: u32) -> u64
-    requires { ⌜ Known (now file) header × (bucket < bucketsOf (now file)) × (bucketSoundIn (now file) bucket ≡ true) ⌝ }
+    requires { ⌜ Known (now file) header × (bucket < bucketsOf (now file))
+        × (bucketSoundIn (now file) bucket ≡ true) ⌝ }
     ensures { λ r. ⌜ r ≡ bitsOf lift (keysIn (now (file .entry)) bucket) ⌝ }
 {
     let mut bits = 0;
@@ -135,8 +136,8 @@ fn put_bucket(
 
 // Writes the keys of a way of sound buckets whose bits are set.
 fn put_matches(file: &[u8], header: Header, way: &[u16], bits: &[u64], matches: &mut [u64])
-    requires { ⌜ Known (now file) header × Way (now file) (now way) × (every (bucketSoundIn (now file)) (now way) ≡ true)
-        × Fitting (now file) (now way) (now bits)
+    requires { ⌜ Known (now file) header × Way (now file) (now way)
+        × (every (bucketSoundIn (now file)) (now way) ≡ true) × Fitting (now file) (now way) (now bits)
         × (length (selectedOn (now file) (now way) (now bits)) ≤ length (now matches)) ⌝ }
     ensures { λ _. ⌜ now (matches .exit)
         ≡ edit 0 (selectedOn (now (file .entry)) (now (way .entry)) (now (bits .entry))) (now (matches .entry)) ⌝ }
@@ -151,7 +152,7 @@ fn put_matches(file: &[u8], header: Header, way: &[u16], bits: &[u64], matches: 
 
 // A refused scan's answer.
 fn refused_scan(reply: u32, bucket: u32) -> ScanAnswer
-    ensures { λ r. ⌜ r ≡ record { reply = reply; bucket = bucket; visits = 0; matches = 0 } ⌝ }
+    ensures { λ r. ⌜ r ≡ refusal reply bucket ⌝ }
 {
     ScanAnswer {
         reply,

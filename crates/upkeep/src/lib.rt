@@ -22,10 +22,7 @@ fn region_sound(file: &[u8], header: Header, region: u32) -> bool
     if region < address::buckets(address::FIRST_BUCKETS, header.state) {
         return file::bucket_sound(file, header, region);
     }
-    let slots = header.slots;
-    let at = file::start(slots, region);
-    let end = at + (8 + 24 * slots as usize);
-    layout::is_zero(&file[at..end])
+    file::region_zero(file, header, region)
 }
 
 // The lowest unsound region, and the number of regions if there is none.

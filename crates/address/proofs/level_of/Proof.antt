@@ -2,18 +2,13 @@
 use borrow.Author.Needs.{needs}
 use Rattle.address.proofs.level_of.Statement.{statement}
 use Rattle.address.proofs.level_of.Tie as tie
-use mathlib.Core.Path.{_∙_, sym}
-use native.Mathlib.Numerals.{add-one}
-use native.Mathlib.Omega.{arith}
-use Rattle.address.specs.Rules.Cases.{level-split, level-born, level-rest}
+use Rattle.address.specs.Rules.Cases.{level-passed, level-new, level-same}
 
 add-result : tie.Need-add-result
 add-result c = search needs
 
 returns : tie.Need-returns
-returns c =
-    let a = c .before .before .before .args in
-    add-one (a .image .level) ∙ sym (level-split (a .first) (a .image) (a .bucket) (omega arith))
+returns c = search level-passed
 
 span-requires : tie.Need-span-requires
 span-requires c κs = search needs
@@ -22,14 +17,10 @@ add-result-2 : tie.Need-add-result-2
 add-result-2 c = search needs
 
 returns-2 : tie.Need-returns-2
-returns-2 c =
-    let a = c .before .before .before .before .before .args in
-    add-one (a .image .level) ∙ sym (level-born (a .first) (a .image) (a .bucket) (omega arith))
+returns-2 c = search level-new
 
 returns-3 : tie.Need-returns-3
-returns-3 c =
-    let a = c .before .before .before .before .args in
-    sym (level-rest (a .first) (a .image) (a .bucket) (omega arith) (omega arith))
+returns-3 c = search level-same
 
 pub level-of-spec : {M : Type 1} → statement M
 level-of-spec =

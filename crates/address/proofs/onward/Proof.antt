@@ -3,11 +3,7 @@
 use borrow.Author.Needs.{needs}
 use Rattle.address.proofs.onward.Statement.{statement}
 use Rattle.address.proofs.onward.Tie as tie
-use Prim.Native.Nat.{ℕ, _-_}
-use mathlib.Core.Path.{_≡_, _∙_, ap, sym}
-use native.Mathlib.Omega.{arith}
-use Rattle.address.specs.Rules.{hash}
-use Rattle.address.specs.Rules.Cases.{onward-near, onward-past, onward-level}
+use Rattle.address.specs.Rules.Cases.{sent-near, sent-level, sent-past}
 
 hash-requires : tie.Need-hash-requires
 hash-requires c κs = search needs
@@ -19,29 +15,13 @@ hash-requires-2 : tie.Need-hash-requires-2
 hash-requires-2 c κs = search needs
 
 returns : tie.Need-returns
-returns c =
-    let a = c .before .before .before .before .before .args in
-    let near : c .before .before .hash2 .result ≡ hash (a .first) (a .level - 1) (a .key) =
-    c .before .before .hash2 .ensures .0
-    ∙ ap (λ (k : ℕ). hash (a .first) k (a .key)) (c .before .before .before .lower .ensures) in
-    near ∙ sym (onward-near (a .first) (a .bucket) (a .level) (a .key) (omega arith) (omega arith))
+returns c = search sent-near
 
 returns-2 : tie.Need-returns-2
-returns-2 c =
-    let a = c .before .before .before .before .before .args in
-    let near : c .before .before .hash2 .result ≡ hash (a .first) (a .level - 1) (a .key) =
-    c .before .before .hash2 .ensures .0
-    ∙ ap (λ (k : ℕ). hash (a .first) k (a .key)) (c .before .before .before .lower .ensures) in
-    c .before .before .before .before .hash .ensures .0
-    ∙ sym (onward-level (a .first) (a .bucket) (a .level) (a .key) (omega arith))
+returns-2 c = search sent-level
 
 returns-3 : tie.Need-returns-3
-returns-3 c =
-    let a = c .before .before .before .before .args in
-    let near : c .before .hash2 .result ≡ hash (a .first) (a .level - 1) (a .key) =
-    c .before .hash2 .ensures .0 ∙ ap (λ (k : ℕ). hash (a .first) k (a .key)) (c .before .before .lower .ensures) in
-    c .before .before .before .hash .ensures .0
-    ∙ sym (onward-past (a .first) (a .bucket) (a .level) (a .key) (omega arith))
+returns-3 c = search sent-past
 
 pub onward-spec : {M : Type 1} → statement M
 onward-spec =

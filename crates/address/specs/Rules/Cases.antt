@@ -1,8 +1,9 @@
 -- Each rule by its cases, over N and the state. From here on no rule is unfolded again.
 use Prim.Native.Nat.{ℕ, suc, _+_, _-_, _≤_, _<_}
-use mathlib.Core.Path.{_≡_, refl, sym, _∙_}
+use mathlib.Core.Path.{_≡_, refl, sym, ap, _∙_}
 use mathlib.Core.Bool.{Bool, true, false}
 use mathlib.Core.Logic.{⊎-elim}
+use native.Mathlib.Numerals.{add-one}
 use native.Mathlib.Omega.{arith}
 use lib.Dec.{eqb}
 use borrow.Author.Tests.{lt-ltb, le-ltb, le-leb, lt-leb, eq-eqb, ne-eqb}
@@ -158,3 +159,36 @@ module _ (N k p : ℕ) where
   pub wrapped-full : span N k ≤ p → wrapped N k p ≡ «at» (suc k) 0
   unfolding wrapped
   wrapped-full h = rw (le-ltb _ _ h)
+
+-- the same by what the code's tests told, one law for each way out
+module _ (N : ℕ) (s : Image) (C : ℕ) {low : ℕ} (is : low ≡ hash N (s .level) C) where
+  pub address-up : low < s .pointer → {high : ℕ} → high ≡ hash N (s .level + 1) C → high ≡ address N s C
+  address-up h e = e ∙ ap (λ (k : ℕ). hash N k C) (add-one (s .level)) ∙ sym (address-low N s C (omega arith))
+
+  pub address-same : s .pointer ≤ low → low ≡ address N s C
+  address-same h = is ∙ sym (address-high N s C (omega arith))
+
+module _ (N : ℕ) (s : Image) (a : ℕ) where
+  pub level-passed : a < s .pointer → s .level + 1 ≡ level N s a
+  level-passed h = add-one (s .level) ∙ sym (level-split N s a h)
+
+  module _ {width : ℕ} (is : width ≡ span N (s .level)) where
+    pub level-new : width ≤ a → s .level + 1 ≡ level N s a
+    level-new h = add-one (s .level) ∙ sym (level-born N s a (omega arith))
+
+    pub level-same : s .pointer ≤ a → a < width → s .level ≡ level N s a
+    level-same h l = sym (level-rest N s a h (omega arith))
+
+module _ (N a j C : ℕ) {far down near : ℕ} (is-far : far ≡ hash N j C) (is-down : down ≡ j - 1)
+    (is-near : near ≡ hash N down C) where
+  nearer : near ≡ hash N (j - 1) C
+  nearer = is-near ∙ ap (λ (k : ℕ). hash N k C) is-down
+
+  pub sent-near : a < near → near < far → near ≡ onward N a j C
+  sent-near h l = nearer ∙ sym (onward-near N a j C (omega (arith, nearer)) (omega (arith, nearer)))
+
+  pub sent-level : far ≤ near → far ≡ onward N a j C
+  sent-level h = is-far ∙ sym (onward-level N a j C (omega (arith, nearer)))
+
+  pub sent-past : near ≤ a → far ≡ onward N a j C
+  sent-past h = is-far ∙ sym (onward-past N a j C (omega (arith, nearer)))

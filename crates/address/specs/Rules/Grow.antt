@@ -7,7 +7,8 @@ use mathlib.Core.Logic.{_⊎_, inl, inr, ⊎-elim}
 use native.Mathlib.Omega.{arith}
 use Rattle.address.specs.Compare.{below}
 use Rattle.address.specs.declared.Image.{Image}
-use Rattle.address.specs.Rules.{«at», Formed, span, buckets, hash, address, level, wrapped, splitting, newborn, grown}
+use Rattle.address.specs.Rules.{«at», Formed, span, buckets, hash, address, level, wrapped, splitting, newborn}
+use Rattle.address.specs.Rules.{grown}
 use Rattle.address.specs.Rules.Hash.{span-suc, span-pos, hash-lt, hash-suc}
 use Rattle.address.specs.Rules.Address.{address-own}
 use Rattle.address.specs.Rules.Cases.{buckets-is, newborn-is, grown-is, wrapped-below, wrapped-full, address-low}

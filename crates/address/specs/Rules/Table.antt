@@ -6,8 +6,9 @@ use mathlib.Core.List.{List, [], _∷_}
 use native.Mathlib.Nat.{mod-one}
 use Rattle.address.specs.declared.Image.{Image}
 use Rattle.address.specs.Rules.{«at», span, buckets, hash, address, level, keeps, onward, fate, wrapped, adjusted}
-use Rattle.address.specs.Rules.{imageAfter, child, splitting, newborn, grown, following, routeFrom, route, numbers, opening}
-use Rattle.address.specs.Rules.{sends, answers, handled, messages, visits, greatest, lastRound, topSpan, parent}
+use Rattle.address.specs.Rules.{imageAfter, child, splitting, newborn, grown, following, routeFrom, route}
+use Rattle.address.specs.Rules.{numbers, opening, sends, answers, handled, messages, visits, greatest, lastRound}
+use Rattle.address.specs.Rules.{topSpan, parent}
 
 -- A key sent in a file by a client: its route, and the client's image afterwards.
 abbrev pub Sending : Image → Image → ℕ → List ℕ → Image → Type 0

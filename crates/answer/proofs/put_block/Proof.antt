@@ -1,7 +1,5 @@
 -- `answer::put_block` writes the 24 bytes of a block at once.
-use mathlib.Core.Path.{sym, _∙_}
-use Rattle.layout.specs.Bytes.Edit.{edit-all}
-use Rattle.answer.specs.Answer.Block.{block-source}
+use Rattle.answer.specs.Answer.Block.{block-written}
 use borrow.Author.Needs.{needs}
 use Rattle.answer.proofs.put_block.Statement.{statement}
 use Rattle.answer.proofs.put_block.Tie as tie
@@ -46,19 +44,7 @@ same-length : tie.Need-same-length
 same-length c = search needs
 
 returns : tie.Need-returns
-returns c =
-    let a = c .before .before .before .before .before .before .before .before .before .args in
-    c .before .before .put .ensures
-    ∙ edit-all _ (a .answer .now)
-    (sym (c .before .before .before .before .before .before .before .before .before .pre .0))
-    ∙ block-source (a .walk) (a .reply) (a .flag)
-    (c .before .before .before .before .before .before .before .entry .result)
-    (c .before .before .before .before .before .before .entry2 .result)
-    (c .before .before .before .before .before .entry3 .result)
-    (c .before .before .before .before .before .before .before .before .before .pre .1)
-    (c .before .before .before .before .before .before .before .entry .ensures)
-    (c .before .before .before .before .before .before .entry2 .ensures)
-    (c .before .before .before .before .before .entry3 .ensures)
+returns c = search block-written
 
 pub put-block-spec : {M : Type 1} → statement M
 put-block-spec =

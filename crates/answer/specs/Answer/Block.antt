@@ -4,14 +4,13 @@ use mathlib.Core.Path.{_≡_, refl, sym, ap, _∙_}
 use mathlib.Core.Bool.{Bool, cond}
 use mathlib.Core.List.{List, [], _∷_, _++_, append-nil}
 use native.Mathlib.Omega.{arith}
-use borrow.Author.Tests.{eq-eqb}
-use lib.Dec.{eqb}
+use borrow.Author.Tests.{eq-eqb, ne-eqb}
 use lib.ListN.{length, getD, drop, replicate}
 use Rattle.address.specs.Limits.{noBucket}
 use Rattle.address.specs.Rules.{forwards}
 use Rattle.address.specs.Rules.Route.{forwards-is}
 use Rattle.layout.specs.Bytes.{edit, part}
-use Rattle.layout.specs.Bytes.Edit.{edit-seam, part-edit}
+use Rattle.layout.specs.Bytes.Edit.{edit-all, edit-seam, part-edit}
 use Rattle.layout.specs.Bytes.Numbers.{leBytes-two}
 use Rattle.route.specs.declared.Walk.{Walk}
 use Rattle.route.specs.Way.{noted}
@@ -30,15 +29,18 @@ unfolding block entry
 block-bytes r flag way payload = rw
     (leBytes-two (getD way 0 noBucket), leBytes-two (getD way 1 noBucket), leBytes-two (getD way 2 noBucket))
 
-module _ (walk : Walk) where
-  -- a block without a payload, from what a walk has noted
-  pub block-source : (r flag x y z : ℕ) → walk .count ≤ 3 → x ≡ shown (walk .count) 0 (walk .first)
-      → y ≡ shown (walk .count) 1 (walk .second) → z ≡ shown (walk .count) 2 (walk .third)
-      → blockBytes r flag (walk .count) x y z (replicate 14 0) ≡ block r (noted walk) flag noPayload
-  unfolding noPayload
-  block-source r flag x y z few ex ey ez = sym (block-bytes r flag (noted walk) (replicate 14 0)
-      ∙ (λ i. blockBytes r flag (noted-length walk few i) ((noted-first walk few ∙ sym ex) i)
-      ((noted-second walk few ∙ sym ey) i) ((noted-third walk few ∙ sym ez) i) (replicate 14 0)))
+-- a block without a payload is written at once, from what a walk has noted
+pub block-written : (answer : List ℕ) (walk : Walk) (r flag : ℕ) → length answer ≡ 24 → walk .count ≤ 3 → {x y z : ℕ}
+    → x ≡ shown (walk .count) 0 (walk .first) → y ≡ shown (walk .count) 1 (walk .second)
+    → z ≡ shown (walk .count) 2 (walk .third) → {left : List ℕ}
+    → left ≡ edit 0 (blockBytes r flag (walk .count) x y z (replicate 14 0)) answer
+    → left ≡ block r (noted walk) flag noPayload
+unfolding noPayload
+block-written answer walk r flag long few ex ey ez el = el
+    ∙ edit-all _ answer (sym long)
+    ∙ sym (block-bytes r flag (noted walk) (replicate 14 0)
+    ∙ (λ i. blockBytes r flag (noted-length walk few i) ((noted-first walk few ∙ sym ex) i)
+    ((noted-second walk few ∙ sym ey) i) ((noted-third walk few ∙ sym ez) i) (replicate 14 0)))
 
 -- a payload over the zeros
 pub block-payload : (r flag : ℕ) (way payload : List ℕ) → length payload ≡ 14
@@ -54,11 +56,18 @@ block-payload r flag way payload long =
     front : List ℕ → List ℕ
     front = blockBytes r flag (length way) (getD way 0 noBucket) (getD way 1 noBucket) (getD way 2 noBucket)
 
--- the forwards of a block, by whether it has 24 bytes
-pub forwards-judged : (answer : List ℕ) (fits : Bool) → eqb (length answer) 24 ≡ fits
-    → cond fits (getD answer 1 0 - 1) 0 ≡ forwardsIn answer
+-- the forwards that bytes tell: none if they are no block, or of a block without a route
+pub forwards-other : (answer : List ℕ) → (length answer ≡ 24 → ⊥) → 0 ≡ forwardsIn answer
 unfolding forwardsIn
-forwards-judged answer fits h = ap (λ (fit : Bool). cond fit (getD answer 1 0 - 1) 0) (sym h)
+forwards-other answer h = rw (ne-eqb (length answer) 24 h)
+
+module _ (answer : List ℕ) (long : length answer ≡ 24) {met : ℕ} (em : met ≡ getD answer 1 0) where
+  pub forwards-met : met - 1 ≡ forwardsIn answer
+  unfolding forwardsIn
+  forwards-met = rw (eq-eqb (length answer) 24 long) (ap (λ (n : ℕ). n - 1) em)
+
+  pub forwards-none : met ≡ 0 → 0 ≡ forwardsIn answer
+  forwards-none none = omega (arith, forwards-met)
 
 -- the forwards of a block are those of its route
 pub forwards-block : (r flag : ℕ) (way payload : List ℕ) → length payload ≡ 14

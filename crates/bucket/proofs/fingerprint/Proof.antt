@@ -1,4 +1,4 @@
--- `bucket::fingerprint`: the code computes what the definition has, and a remainder by 512 is below it.
+-- `bucket::fingerprint`: the code computes what the definition has, and a remainder is below its divisor.
 use native.Mathlib.Omega.{arith}
 use Rattle.bucket.specs.Region.Single.{fingerprint-is}
 use borrow.Author.Needs.{needs}
@@ -11,8 +11,11 @@ add-folded c = search needs
 mul-result : tie.Need-mul-result
 mul-result c = search needs
 
+rem-result : tie.Need-rem-result
+rem-result c = search needs
+
 returns : tie.Need-returns
 returns c = (fingerprint-is (c .args .key), omega arith)
 
 pub fingerprint-spec : {M : Type 1} → statement M
-fingerprint-spec = tie.close (tie.spec add-folded mul-result returns)
+fingerprint-spec = tie.close (tie.spec add-folded mul-result rem-result returns)

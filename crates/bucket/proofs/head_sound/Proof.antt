@@ -26,13 +26,7 @@ read2-requires : tie.Need-read2-requires
 read2-requires c κs = search needs
 
 returns : tie.Need-returns
-returns c =
-    let a = c .before .before .before .before .before .before .before .before .before .args in
-    head-judged (a .slots) (a .level) (a .region .now)
-    (c .before .before .before .before .before .before .has-mark .result) (c .before .wide .result)
-    (c .read2 .result)
-    (c .before .before .before .before .before .before .has-mark .ensures) (c .before .wide .ensures .0)
-    (c .read2 .ensures .0)
+returns c = search head-judged
 
 pub head-sound-spec : {M : Type 1} → statement M
 head-sound-spec =

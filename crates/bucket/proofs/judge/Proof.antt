@@ -1,17 +1,8 @@
 -- `bucket::judge` tests head, slots and unused bytes in turn; the first that fails makes the region unsound. The key's
 -- slot comes from the slots' pass.
-use Prim.Native.Nat.{ℕ, _≤_}
-use mathlib.Core.Path.{refl, sym, ap, _∙_}
-use mathlib.Core.Bool.{false≢true}
-use native.Mathlib.Omega.{arith}
-use lib.Dec.{eqb}
-use borrow.Author.Tests.{not-false}
-use Rattle.address.specs.Rules.{keeps}
-use Rattle.layout.specs.Bytes.{firstFrom}
-use Rattle.bucket.specs.Region.{keyAt}
-use Rattle.bucket.specs.Region.Judge.{judged-head, judged-few, judged-slots, judged-rest}
-use Rattle.bucket.specs.Region.Keep.{slot-is}
 use borrow.Author.Needs.{needs}
+use Rattle.bucket.specs.Region.Told.{unsound-nowhere, head-unsound, count-within, count-most, slots-unsound}
+use Rattle.bucket.specs.Region.Told.{rest-judged, place-judged}
 use Rattle.bucket.proofs.judge.Statement.{statement}
 use Rattle.bucket.proofs.judge.Tie as tie
 
@@ -22,42 +13,19 @@ unsound-requires : tie.Need-unsound-requires
 unsound-requires c κs = search needs
 
 returns : tie.Need-returns
-returns c =
-    let h = c .before .before .head-sound in
-    let a = c .before .before .before .before .args in (
-      c .unsound .ensures ∙ judged-head (a .slots) (a .level) (keeps (a .first) (a .bucket) (a .level)) (a .region .now)
-          (h .result) _ (h .ensures) refl (c .before .if1 .taken),
-      λ e. absurd
-          (false≢true (sym (c .unsound .ensures) ∙ e)),
-    )
+returns c = (search head-unsound, search unsound-nowhere)
 
 read2-requires : tie.Need-read2-requires
 read2-requires c κs = search needs
 
 slots-sound-requires : tie.Need-slots-sound-requires
-slots-sound-requires c κs =
-    let h = c .before .before .head-sound in
-    let a = c .before .before .before .before .args in
-    let n = c .read2 in
-    let few : n .result ≤ a .slots = judged-few (a .slots) (a .level) (keeps (a .first) (a .bucket) (a .level))
-    (a .region .now) (h .result) (n .result) (h .ensures) (n .ensures .0) (c .before .if1 .left) in
-    (c .before .before .before .before .pre .0, omega arith, omega arith)
+slots-sound-requires c κs = (search needs, search count-within, search count-most)
 
 unsound-requires-2 : tie.Need-unsound-requires-2
 unsound-requires-2 c κs = search needs
 
 returns-2 : tie.Need-returns-2
-returns-2 c =
-    let h = c .before .before .before .before .before .before .head-sound in
-    let a = c .before .before .before .before .before .before .before .before .args in
-    let n = c .before .before .before .before .read2 in
-    let s = c .before .before .before .slots-sound in (
-      c .unsound2 .ensures ∙ judged-slots (a .slots) (a .level) (keeps (a .first) (a .bucket) (a .level))
-          (a .region .now) (h .result) (n .result) (h .ensures) (n .ensures .0)
-          (c .before .before .before .before .before .if1 .left) (s .result .sound) (s .ensures .tested)
-          (c .before .if2 .taken),
-      λ e. absurd (false≢true (sym (c .unsound2 .ensures) ∙ e)),
-    )
+returns-2 c = (search slots-unsound, search unsound-nowhere)
 
 mul-rest : tie.Need-mul-rest
 mul-rest c = search needs
@@ -66,14 +34,7 @@ add-rest : tie.Need-add-rest
 add-rest c = search needs
 
 sub-is-zero : tie.Need-sub-is-zero
-sub-is-zero c =
-    let h = c .before .before .before .before .before .head-sound in
-    let a = c .before .before .before .before .before .before .before .args in
-    let n = c .before .before .before .read2 in
-    let few : n .result ≤ a .slots = judged-few (a .slots) (a .level) (keeps (a .first) (a .bucket) (a .level))
-    (a .region .now) (h .result) (n .result) (h .ensures) (n .ensures .0)
-    (c .before .before .before .before .if1 .left) in
-    omega arith
+sub-is-zero c = search (count-within, needs)
 
 part-is-zero-start : tie.Need-part-is-zero-start
 part-is-zero-start c = sub-is-zero c
@@ -85,19 +46,7 @@ is-zero-requires : tie.Need-is-zero-requires
 is-zero-requires c κs = search needs
 
 returns-3 : tie.Need-returns-3
-returns-3 c =
-    let h = c .before .before .before .before .before .before .before .head-sound in
-    let a = c .before .before .before .before .before .before .before .before .before .args in
-    let n = c .before .before .before .before .before .read2 in
-    let s = c .before .before .before .before .slots-sound in (
-      judged-rest (a .slots) (a .level) (keeps (a .first) (a .bucket) (a .level)) (a .region .now) (h .result)
-          (n .result) (h .ensures) (n .ensures .0) (c .before .before .before .before .before .before .if1 .left)
-          (s .result .sound) (s .ensures .tested) (c .before .before .if2 .left) (c .is-zero .result)
-          (c .is-zero .ensures),
-      λ e. s .ensures .found (not-false _ (c .before .before .if2 .left))
-          ∙ ap (λ (m : ℕ). firstFrom (λ i. eqb (keyAt (a .region .now) i) (a .key)) m 0) (n .ensures .0)
-          ∙ slot-is (a .region .now) (a .key),
-    )
+returns-3 c = (search rest-judged, search place-judged)
 
 pub judge-spec : {M : Type 1} → statement M
 judge-spec =

@@ -1,10 +1,7 @@
 -- `bucket::place` writes mark, key and payload one behind the other, which is the slot's bytes, and then the count.
-use Prim.Native.Nat.{_+_}
-use mathlib.Core.Path.{refl, ap, _∙_}
-use Rattle.layout.specs.Bytes.{leBytes, edit}
-use Rattle.bucket.specs.Region.{slotAt}
-use Rattle.bucket.specs.Region.Write.{put-slot}
+use mathlib.Core.Path.{refl}
 use borrow.Author.Needs.{needs}
+use Rattle.bucket.specs.Region.Told.{ride-placed}
 use Rattle.bucket.proofs.place.Statement.{statement}
 use Rattle.bucket.proofs.place.Tie as tie
 
@@ -42,16 +39,7 @@ same-length : tie.Need-same-length
 same-length c = search needs
 
 returns : tie.Need-returns
-returns c =
-    let a = c .before .before .before .before .before .before .before .before .before .before .before .before .before .before .before .before .before .before .before .args in (
-      refl,
-      c .before .before .put22 .ensures
-          ∙ ap (edit 4 (leBytes 2 (a .count + 1)))
-          (c .before .before .before .before .before .before .put2 .ensures
-          ∙ ap (edit (slotAt (a .count) + 10) (a .payload .now))
-          (c .before .before .before .before .before .before .before .before .before .before .put8 .ensures ∙ ap (edit (slotAt (a .count) + 2) (leBytes 8 (a .key))) (c .before .before .before .before .before .before .before .before .before .before .before .before .before .before .put .ensures))
-          ∙ put-slot (slotAt (a .count)) (a .key) (a .payload .now) (a .region .now) (c .before .before .before .before .before .before .before .before .before .before .before .before .before .before .before .before .before .before .before .pre .2) (c .before .before .before .before .before .before .before .before .before .before .before .before .before .before .before .before .before .before .before .pre .0)),
-    )
+returns c = (refl, search ride-placed)
 
 pub place-spec : {M : Type 1} → statement M
 place-spec =

@@ -10,8 +10,14 @@ use native.Mathlib.Decide.{decLt}
 use native.Mathlib.Nat.{zero-add}
 use native.Mathlib.Numerals.{add-one}
 use native.Mathlib.Omega.{arith}
+use mir.Syntax.{w64}
+use mir.Val.{Fits}
+use lib.Dec.{eqb}
 use lib.ListN.{length, getD, take, drop, replicate, length-append, length-drop, length-replicate}
 use lib.Seq.{length-take-le}
+use Rattle.address.specs.Limits.{mostSlots}
+use Rattle.address.specs.Rules.{hash, keeps}
+use Rattle.address.specs.Rules.Cases.{keeps-is}
 use Rattle.layout.specs.Bytes.{Bytes, leAt, allBelow, edit, part}
 use Rattle.layout.specs.Bytes.Tests.{all-at}
 use Rattle.layout.specs.Bytes.Apart.{Apart, edit-apart, edit-over, edit-same, part-same, lent}
@@ -102,12 +108,34 @@ closing S at count headed cleared fits few e =
         (length-take-le n (drop (at + slotAt count) headed) (omega (arith, length-drop (at + slotAt count) headed))
         ∙ wide)
 
+pub close-written : (S j at count : ℕ) (bytes : List ℕ) → at + slotAt S ≤ length bytes → count ≤ S
+    → {headed cleared : List ℕ} → headed ≡ edit at (headBytes j count) bytes
+    → cleared
+    ≡ replicate (length (take (at + (8 + 24 * S) - (at + (8 + 24 * count))) (drop (at + (8 + 24 * count)) headed)))
+    0
+    → take (at + (8 + 24 * count)) headed
+    ++ (cleared ++ drop (at + (8 + 24 * S) - (at + (8 + 24 * count))) (drop (at + (8 + 24 * count)) headed))
+    ≡ edit (at + slotAt count) (replicate (24 * (S - count)) 0) (edit at (headBytes j count) bytes)
+close-written S j at count bytes fits few {headed} {cleared} eh ec = closing S at count headed cleared room few ec
+    ∙ ap (edit (at + slotAt count) (replicate {A = ℕ} (24 * (S - count)) 0)) eh
+  where
+    room : at + slotAt S ≤ length headed
+    room = omega (
+      arith,
+      ap length eh,
+      length-edit at (headBytes j count) bytes (omega (arith, length-head j count)),
+    )
+
 -- a bucket without rides
 pub closed-empty : (S j : ℕ) (region : List ℕ) → length region ≡ slotAt S
     → edit (0 + slotAt 0) (replicate (24 * (S - 0)) 0) (edit 0 (headBytes j 0) region) ≡ encode S j []
 unfolding slotsBytes
 closed-empty S j region long = closed S j 0 [] region tt (omega arith) (omega arith) (part-is (0 + 8) 0 region)
     ∙ edit-all (encode S j []) region (length-encode S j [] tt (omega arith) ∙ sym long)
+
+pub emptied : (S j : ℕ) (region : List ℕ) {exit : List ℕ} → length region ≡ slotAt S
+    → exit ≡ edit (0 + slotAt 0) (replicate (24 * (S - 0)) 0) (edit 0 (headBytes j 0) region) → exit ≡ encode S j []
+emptied S j region long e = e ∙ closed-empty S j region long
 
 -- ---- the rides parted so far
 
@@ -479,3 +507,60 @@ pub divide-rides : (own : ℕ → Bool) (entry : List ℕ) (S j old new n : ℕ)
     ≡ halved own S j old new entry
 unfolding ridesOf
 divide-rides own entry S j old new n e = rw e refl
+
+-- ---- the dividing functions by what their calls and tests told
+
+-- one ride more
+module _ (N a j : ℕ) (entry : List ℕ) (S old new count : ℕ) (halves : Halves entry S old new count) {k stay : ℕ}
+    {now : List ℕ} (so : Parted (keeps N a j) entry S old new count k stay now) (more : k < count) where
+  pub stay-fits : S ≤ mostSlots → (kept : Bool) {one : ℕ} → one ≡ cond kept 1 0 → Fits w64 (stay + one)
+  stay-fits few kept {one} e = record { fits = omega (arith, one-at-most kept one e, so .short, halves .few) }
+
+  pub part-next : {key hashed one : ℕ} {moved exit : List ℕ} → key ≡ leAt 8 now (old + (8 + 24 * k) + 2)
+      → hashed ≡ hash N j key
+      → moved ≡ edit (new + (8 + 24 * (k - stay))) (part (old + (8 + 24 * k)) 24 now) now
+      → exit ≡ edit (old + (8 + 24 * stay)) (part (old + (8 + 24 * k)) 24 moved) moved
+      → one ≡ cond (eqb hashed a) 1 0
+      → Parted (keeps N a j) entry S old new count (k + 1) (stay + one) exit
+  part-next {key} {hashed} {one} ek eh em ex eo = subst
+      (λ (bytes : List ℕ). Parted (keeps N a j) entry S old new count (k + 1) (stay + one) bytes)
+      (sym (ex ∙ ap (λ (bytes : List ℕ). edit (old + slotAt stay) (part (old + slotAt k) 24 bytes) bytes) em
+      ∙ ap (λ (slot : List ℕ). edit (old + slotAt stay) slot
+      (edit (new + slotAt (k - stay)) (part (old + slotAt k) 24 now) now))
+      (parted-again (keeps N a j) entry S old new count halves k stay now so more)))
+      (parted-more (keeps N a j) entry S old new count halves k stay now so more one
+      (eo ∙ ap (λ (b : Bool). cond b 1 0) belongs))
+    where
+      belongs : eqb hashed a ≡ keeps N a j (keyAt (part old (slotAt S) entry) k)
+      belongs = ap (λ (h : ℕ). eqb h a)
+          (eh ∙ ap (hash N j) (parted-key (keeps N a j) entry S old new count halves k stay now so more key ek))
+          ∙ sym (keeps-is N a j (keyAt (part old (slotAt S) entry) k))
+
+-- the count read, and both regions closed
+module _ (entry : List ℕ) (S old new : ℕ)
+    (halves : Halves entry S old new (countOf (part old (slotAt S) entry))) {n : ℕ}
+    (is : n ≡ leAt 2 entry (old + 4)) where
+  pub halves-read : Halves entry S old new n
+  halves-read = subst (Halves entry S old new) (sym (divide-count entry S old n is)) halves
+
+  pub some-fit : {m : ℕ} → m ≤ n → m ≤ S
+  some-fit fewer = omega (arith, halves-read .few)
+
+  module _ {own : ℕ → Bool} {stay : ℕ} {now : List ℕ} (so : Parted own entry S old new n n stay now) where
+    pub old-fits : old + slotAt S ≤ length now
+    old-fits = omega (arith, so .long, halves .apart, halves .fits)
+
+    pub new-fits : {size : ℕ} → size ≡ length now → new + slotAt S ≤ size
+    new-fits e = omega (arith, so .long, halves .fits)
+
+    pub halved-done : (j : ℕ) {one exit : List ℕ}
+        → one ≡ edit (old + slotAt stay) (replicate (24 * (S - stay)) 0) (edit old (headBytes j stay) now)
+        → exit
+        ≡ edit (new + slotAt (n - stay)) (replicate (24 * (S - (n - stay))) 0) (edit new (headBytes j (n - stay)) one)
+        → exit ≡ halved own S j old new entry
+    halved-done j e1 e2 =
+        e2
+        ∙ ap (λ (bytes : List ℕ). edit (new + slotAt (n - stay)) (replicate {A = ℕ} (24 * (S - (n - stay))) 0)
+        (edit new (headBytes j (n - stay)) bytes)) e1
+        ∙ divided-written own entry S old new n halves-read j stay now so
+        ∙ divide-rides own entry S j old new n (divide-count entry S old n is)

@@ -13,7 +13,8 @@ use Rattle.layout.specs.Bytes.{leAt, leBytes, edit, part}
 use Rattle.layout.specs.Bytes.Tests.{and-both}
 use Rattle.layout.specs.Bytes.Edit.{edit-next, edit-seam, part-seam, part-drop}
 use Rattle.layout.specs.Bytes.Numbers.{length-leBytes, leBytes-two, le-back, le-seam, le-drop}
-use Rattle.bucket.specs.Region.{Ride, Whole, bucketMark, slotMark, slotAt, countOf, levelOf, headFormed, slotUsed, keyAt}
+use Rattle.bucket.specs.Region.{Ride, Whole, bucketMark, slotMark, slotAt, countOf, levelOf, headFormed, slotUsed}
+use Rattle.bucket.specs.Region.{keyAt}
 use Rattle.bucket.specs.Region.{rideAt, ridesFrom, headBytes, slotBytes, slotsBytes, layOut, encode}
 use Rattle.bucket.specs.Region.Rides.{AllWhole, whole-append}
 

@@ -1,14 +1,15 @@
--- A test that every number of a list passes: by the list's first number, by its parts, and by what stands in it.
+-- That every number of a list passes a test: by the list's first number, by its parts, by another test, and by what
+-- stands in it.
 use Prim.Native.Nat.{ℕ, _<_}
 use mathlib.Core.Path.{_≡_, refl, sym, ap, ap₂, _∙_}
-use mathlib.Core.Bool.{Bool, true, false, _&&_, true≢false}
+use mathlib.Core.Bool.{Bool, true, false, _&&_, and-true, and-assoc, true≢false}
 use mathlib.Core.List.{List, [], _∷_, _++_}
 use mathlib.Core.Logic.{⊎-elim}
 use native.Mathlib.Omega.{arith}
 use Rattle.address.specs.Compare.{same}
 use Rattle.address.specs.Rules.Route.{Below}
 use Rattle.address.specs.Rules.Scan.{times, times-none, times-there}
-use Rattle.layout.specs.Bytes.Tests.{and-left, and-right, and-both}
+use Rattle.layout.specs.Bytes.Tests.{and-left, and-right}
 use Rattle.bucket.specs.Region.{every}
 
 pub every-none : (test : ℕ → Bool) → every test [] ≡ true
@@ -33,7 +34,7 @@ module _ (test : ℕ → Bool) (a : ℕ) (xs : List ℕ) where
   unfolding every
   every-fails h = rw h
 
--- a first part that passes, and one number more
+-- by its parts: a first part that passes, and one number more at the end
 pub every-past : (test : ℕ → Bool) (xs ys : List ℕ) → every test xs ≡ true → every test (xs ++ ys) ≡ every test ys
 every-past test [] ys h = refl
 every-past test (a ∷ xs) ys h = every-next test a (xs ++ ys) (every-first test a xs h)
@@ -41,19 +42,11 @@ every-past test (a ∷ xs) ys h = every-next test a (xs ++ ys) (every-first test
 
 pub every-append : (test : ℕ → Bool) (xs : List ℕ) (a : ℕ) → every test (xs ++ (a ∷ [])) ≡ (every test xs && test a)
 unfolding every
-every-append test [] a = go (test a)
-  where
-    go : (b : Bool) → (b && true) ≡ b
-    go true = refl
-    go false = refl
+every-append test [] a = and-true (test a)
 every-append test (first ∷ xs) a = ap (λ (b : Bool). test first && b) (every-append test xs a)
-    ∙ go (test first) (every test xs) (test a)
-  where
-    go : (a b c : Bool) → (a && (b && c)) ≡ (a && b && c)
-    go true b c = refl
-    go false b c = refl
+    ∙ sym (and-assoc (test first) (every test xs) (test a))
 
--- two tests that agree
+-- tests that agree on each number
 pub every-same : (f g : ℕ → Bool) → ((a : ℕ) → f a ≡ g a) → (xs : List ℕ) → every f xs ≡ every g xs
 unfolding every
 every-same f g agree [] = refl
@@ -73,7 +66,7 @@ every-times test (first ∷ xs) a all fails =
     times-there a first xs (λ e. true≢false (sym (every-first test first xs all) ∙ ap test (sym e) ∙ fails))
     ∙ every-times test xs a (every-rest test first xs all) fails
 
--- a test that each number below a bound passes
+-- numbers below a bound, each of which passes
 pub every-below : (test : ℕ → Bool) (most : ℕ) → ((a : ℕ) → a < most → test a ≡ true) → (xs : List ℕ)
     → Below most xs → every test xs ≡ true
 every-below test most each [] low = every-none test

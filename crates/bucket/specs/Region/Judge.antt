@@ -21,12 +21,12 @@ use Rattle.bucket.specs.Region.{ridesFrom, ridesOf, keysOf, every, disti
 use Rattle.bucket.specs.Region.Rides.{keys-append, distinct-append}
 use Rattle.bucket.specs.Region.Every.{every-append}
 
-pub head-judged : (S j : ℕ) (region : List ℕ) (mark : Bool) (l n : ℕ) → mark ≡ marked region 0 bucketMark
+pub head-judged : (S j : ℕ) (region : List ℕ) {mark : Bool} {l n : ℕ} → mark ≡ marked region 0 bucketMark
     → l ≡ byteAt region 2 → n ≡ leAt 2 region 4
     → (mark && eqb (byteAt region 3) 0 && eqb (byteAt region 6) 0 && eqb (byteAt region 7) 0 && eqb l j && leb n S)
     ≡ headSound S j region
 unfolding headSound headFormed
-head-judged S j region mark l n em el en = rw (em, el, en)
+head-judged S j region em el en = rw (em, el, en)
 
 pub key-is : (region : List ℕ) (k : ℕ) → keyAt region k ≡ leAt 8 region (8 + 24 * k + 2)
 unfolding keyAt

@@ -19,12 +19,17 @@ use Rattle.bucket.specs.Region.{slotUsed, keyAt, ridesFrom, keysOf, ever
 use Rattle.bucket.specs.Region.Rides.{distinct-append}
 use Rattle.bucket.specs.Region.Judge.{keys-more, fresh-from, stands, distinct-later, fitting, fits-all}
 
--- A number below 512 of a key: its ride and its lift added in 32 bits, and of a product of that the upper nine of the
--- lower 32 bits.
-pub fingerprint : ℕ → ℕ
-fingerprint key = (key % 4294967296 + key / 4294967296) % 4294967296 * 1640531527 / 8388608 % 512
+-- There are 2^9 fingerprints.
+abbrev pub fingerprints : ℕ
+fingerprints = 512
 
-pub fingerprint-is : (key : ℕ) → (key % 4294967296 + key / 4294967296) % 4294967296 * 1640531527 / 8388608 % 512
+-- A key's fingerprint: its ride and its lift added in 32 bits, and of a product of that the upper nine of the lower 32
+-- bits.
+pub fingerprint : ℕ → ℕ
+fingerprint key = (key % 4294967296 + key / 4294967296) % 4294967296 * 1640531527 / 8388608 % fingerprints
+
+pub fingerprint-is : (key : ℕ)
+    → (key % 4294967296 + key / 4294967296) % 4294967296 * 1640531527 / 8388608 % fingerprints
     ≡ fingerprint key
 unfolding fingerprint
 fingerprint-is key = refl
@@ -213,17 +218,17 @@ single-done region count k within end single = sym
 
 pub record Chaining (region : List ℕ) (count k : ℕ) (latests before : List ℕ) : Type 0 where
   pub within : k ≤ count
-  pub wide : length latests ≡ 512
-  pub marks : (mark : ℕ) → mark < 512 → getD latests mark 0 ≡ latestOf region mark k
+  pub wide : length latests ≡ fingerprints
+  pub marks : (mark : ℕ) → mark < fingerprints → getD latests mark 0 ≡ latestOf region mark k
   pub chained : Chained region before k
   pub single : distinct (keysOf (ridesFrom region 0 k)) ≡ true
 
-pub chain-none : (region : List ℕ) (count : ℕ) (latests before : List ℕ) → latests ≡ replicate 512 0
+pub chain-none : (region : List ℕ) (count : ℕ) (latests before : List ℕ) → latests ≡ replicate fingerprints 0
     → length before ≡ mostSlots → Chaining region count 0 latests before
 chain-none region count latests before e long = record {
   within = omega arith;
-  wide = ap length e ∙ length-replicate {A = ℕ} 512 0;
-  marks = λ mark h. ap (λ (l : List ℕ). getD l mark 0) e ∙ getD-replicate {A = ℕ} 512 mark 0 0 h
+  wide = ap length e ∙ length-replicate {A = ℕ} fingerprints 0;
+  marks = λ mark h. ap (λ (l : List ℕ). getD l mark 0) e ∙ getD-replicate {A = ℕ} fingerprints mark 0 0 h
       ∙ sym (latest-none region mark);
   chained = record { long = long; links = λ j h. absurd (omega arith) };
   single = single-none region;
@@ -231,7 +236,7 @@ chain-none region count latests before e long = record {
 
 -- where a key's chain starts
 pub chain-start : (region : List ℕ) (count k : ℕ) (latests before : List ℕ) → Chaining region count k latests before
-    → (mark key : ℕ) → mark ≡ fingerprint key → mark < 512
+    → (mark key : ℕ) → mark ≡ fingerprint key → mark < fingerprints
     → (getD latests mark 0 ≡ latestOf region (fingerprint key) k) × (getD latests mark 0 ≤ k)
 chain-start region count k latests before so mark key em small = (
   so .marks mark small ∙ ap (λ (m : ℕ). latestOf region m k) em,
@@ -246,7 +251,7 @@ module _ (region : List ℕ) (count k : ℕ) (latests before : List ℕ) (so : C
   pub chain-met : fresh ≡ false → false ≡ distinct (keysOf (ridesFrom region 0 count))
   chain-met h = single-met region k (so .single) fresh ef h count more
 
-  pub chain-more : fresh ≡ true → (mark next : ℕ) → mark ≡ fingerprint (keyAt region k) → mark < 512
+  pub chain-more : fresh ≡ true → (mark next : ℕ) → mark ≡ fingerprint (keyAt region k) → mark < fingerprints
       → next ≡ getD latests mark 0
       → Chaining region count (k + 1) (set latests mark (k + 1)) (set before k next)
   chain-more h mark next em small en = record {
@@ -257,7 +262,8 @@ module _ (region : List ℕ) (count k : ℕ) (latests before : List ℕ) (so : C
     single = single-more region k (so .single) fresh ef h;
   }
     where
-      marks : (other : ℕ) → other < 512 → getD (set latests mark (k + 1)) other 0 ≡ latestOf region other (k + 1)
+      marks : (other : ℕ) → other < fingerprints
+          → getD (set latests mark (k + 1)) other 0 ≡ latestOf region other (k + 1)
       marks other l = ⊎-elim
           (λ e. ap (λ (m : ℕ). getD (set latests mark (k + 1)) m 0) e
           ∙ getD-set-same latests mark (k + 1) 0 (omega (arith, so .wide)) ∙ add-one k

@@ -3,7 +3,9 @@ use Prim.Native.Nat.{ℕ, _+_, _≤_}
 use mathlib.Core.Path.{_≡_, sym, ap, ap₂, _∙_}
 use mathlib.Core.List.{List, _++_}
 use native.Mathlib.Omega.{arith}
-use lib.ListN.{length, length-append}
+use mir.Syntax.{w8}
+use mir.Val.{Fits}
+use lib.ListN.{length, getD, length-append}
 use Rattle.layout.specs.Bytes.{Bytes, leAt, leBytes, edit, part}
 use Rattle.layout.specs.Bytes.Edit.{edit-next, part-split}
 use Rattle.layout.specs.Bytes.Numbers.{length-leBytes, le-again}
@@ -64,3 +66,17 @@ copied from to bytes each fits room =
         (ap₂ (λ (l r : List ℕ). l ++ r) (le-again 8 bytes from each (omega arith))
         (le-again 8 bytes (from + 8) each (omega arith)) ∙ sym (part-split from 8 8 bytes))
         (le-again 8 bytes (from + 16) each (omega arith)) ∙ sym (part-split from 16 8 bytes)
+
+-- and what the code reads and writes of them
+pub slot-copied : (from to : ℕ) (bytes : List ℕ) → ((k : ℕ) → Fits w8 (getD bytes k 0)) → from + 24 ≤ length bytes
+    → to + 24 ≤ length bytes
+    → {x y z : ℕ} → x ≡ leAt 8 bytes from → y ≡ leAt 8 bytes (from + 8) → z ≡ leAt 8 bytes (from + 16)
+    → {one two exit : List ℕ} → one ≡ edit to (leBytes 8 x) bytes → two ≡ edit (to + 8) (leBytes 8 y) one
+    → exit ≡ edit (to + 16) (leBytes 8 z) two
+    → exit ≡ edit to (part from 24 bytes) bytes
+slot-copied from to bytes known fits room ex ey ez e1 e2 e3 =
+    e3
+    ∙ ap₂ (λ (v : ℕ) (l : List ℕ). edit (to + 16) (leBytes 8 v) l) ez
+    (e2 ∙ ap₂ (λ (v : ℕ) (l : List ℕ). edit (to + 8) (leBytes 8 v) l) ey
+    (e1 ∙ ap (λ (v : ℕ). edit to (leBytes 8 v) bytes) ex))
+    ∙ copied from to bytes (λ k. known k .fits) fits room

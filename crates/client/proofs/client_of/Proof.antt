@@ -35,15 +35,7 @@ image-formed-requires : tie.Need-image-formed-requires
 image-formed-requires c κs = search needs
 
 returns : tie.Need-returns
-returns c =
-    let a = c .before .before .before .before .before .before .args in
-    let image = image-read (a .table .now) (a .client) (c .before .before .before .wide .result)
-    (c .before .before .read2 .result) (c .before .before .before .wide .ensures .0)
-    (c .before .before .read2 .ensures .0) in (
-      record-both (a .table .now) (a .client) (c .before .record-formed .result) (c .image-formed .result) _
-          (c .before .record-formed .ensures) (c .image-formed .ensures) image,
-      image,
-    )
+returns c = (search (record-both, image-read), search image-read)
 
 pub client-of-spec : {M : Type 1} → statement M
 client-of-spec =

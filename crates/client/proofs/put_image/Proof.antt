@@ -1,8 +1,4 @@
 -- `client::put_image` writes the mark, then the figures behind it: the image's bytes.
-use mathlib.Core.Path.{ap, _∙_}
-use Prim.Native.Nat.{_*_, _+_, _/_, _%_}
-use mathlib.Core.List.{[], _∷_}
-use Rattle.layout.specs.Bytes.{edit}
 use Rattle.client.specs.Table.Laws.{image-written}
 use borrow.Author.Needs.{needs}
 use Rattle.client.proofs.put_image.Statement.{statement}
@@ -39,14 +35,7 @@ same-length : tie.Need-same-length
 same-length c = search needs
 
 returns : tie.Need-returns
-returns c =
-    let a = c .before .before .before .before .before .before .before .before .before .before .before .args in
-    c .before .before .put2 .ensures
-    ∙ ap (edit (8 * a .client + 2)
-    (a .image .level ∷ 0 ∷ a .image .pointer % 256 ∷ a .image .pointer / 256 % 256 ∷ 0 ∷ 0 ∷ []))
-    (c .before .before .before .before .before .before .before .put .ensures)
-    ∙ image-written (a .table .now) (a .client) (a .image)
-    (c .before .before .before .before .before .before .before .before .before .before .before .pre .0)
+returns c = search image-written
 
 pub put-image-spec : {M : Type 1} → statement M
 put-image-spec =

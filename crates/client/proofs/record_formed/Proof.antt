@@ -29,10 +29,7 @@ shared-slice-read-result-3 : tie.Need-shared-slice-read-result-3
 shared-slice-read-result-3 c = search needs
 
 returns : tie.Need-returns
-returns c =
-    let a = c .before .before .before .before .before .before .args in
-    record-judged (a .table .now) (a .client) (c .before .before .before .has-mark .result)
-    (c .before .before .before .has-mark .ensures)
+returns c = search record-judged
 
 pub record-formed-spec : {M : Type 1} → statement M
 record-formed-spec =

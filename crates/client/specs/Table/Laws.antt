@@ -16,7 +16,7 @@ use Rattle.layout.specs.Bytes.{byteAt, leAt, leBytes, marked, edit}
 use Rattle.layout.specs.Bytes.Tests.{and-left, and-right}
 use Rattle.layout.specs.Bytes.Edit.{edit-next}
 use Rattle.layout.specs.Bytes.Numbers.{leBytes-two}
-use Rattle.layout.specs.Replies.{Numbers, reply, reply-none, reply-here, reply-past, reply-else}
+use Rattle.layout.specs.Replies.{Numbers, reply, reply-none, reply-here, reply-past}
 use Rattle.client.specs.Table.{clientMark, lengthSound, exists, imageOf, recordFormed, imageFormed, recordSound}
 use Rattle.client.specs.Table.{tableRefusals, imageBytes, withImage, Joined, join}
 
@@ -40,22 +40,11 @@ module _ (table : List ℕ) (client : ℕ) where
   unfolding tableRefusals
   table-numbers P two three = (two, (three, tt))
 
-  decided : (done : ℕ) → reply (tableRefusals table client) done
-      ≡ cond (eqb (reply (tableRefusals table client) 0) 0) done (reply (tableRefusals table client) 0)
-  decided = reply-else (tableRefusals table client)
-      (table-numbers (λ n. n ≡ 0 → ⊥) (λ e. omega (arith, e)) (λ e. omega (arith, e)))
+  pub table-numbered : Numbers (λ n. n ≡ 0 → ⊥) (tableRefusals table client)
+  table-numbered = table-numbers (λ n. n ≡ 0 → ⊥) (λ e. omega (arith, e)) (λ e. omega (arith, e))
 
-  -- a table that is refused is refused whatever comes after, and one that is not passes it on
-  pub table-refused : (r : ℕ) → reply (tableRefusals table client) 0 ≡ r → (r ≡ 0 → ⊥) → (done : ℕ)
-      → reply (tableRefusals table client) done ≡ r
-  table-refused r e some done = decided done ∙ ap (λ (n : ℕ). cond (eqb n 0) done n) e
-      ∙ ap (λ (b : Bool). cond b done r) (ne-eqb r 0 some)
-
-  pub table-passes : reply (tableRefusals table client) 0 ≡ 0 → (done : ℕ)
-      → reply (tableRefusals table client) done ≡ done
-  table-passes e done = decided done ∙ ap (λ (n : ℕ). cond (eqb n 0) done n) e
-
-  pub length-flag : (flag : Bool) → flag ≡ (ltb 0 (length table) && leb (length table) mostTable && eqb (length table % 8) 0)
+  pub length-flag : (flag : Bool)
+      → flag ≡ (ltb 0 (length table) && leb (length table) mostTable && eqb (length table % 8) 0)
       → flag ≡ lengthSound table
   unfolding lengthSound
   length-flag flag e = e
@@ -68,6 +57,9 @@ module _ (table : List ℕ) (client : ℕ) where
       go false e = absurd (omega (arith, refused-length e))
       go true e = by-cases (decLt client (length table / 8)) (λ l. omega arith)
           (λ l. absurd (omega (arith, refused-client e (omega arith))))
+
+  pub table-fits : {r : ℕ} → r ≡ reply (tableRefusals table client) 0 → r ≡ 0 → 8 * client + 8 ≤ length table
+  table-fits er none = record-fits (sym er ∙ none)
 
   pub record-judged : (mark : Bool) → mark ≡ marked table (8 * client) clientMark
       → (mark && eqb (byteAt table (8 * client + 3)) 0 && eqb (byteAt table (8 * client + 6)) 0
@@ -111,11 +103,13 @@ record-image table client h =
 
 -- an image is written as its mark and its figures
 pub image-written : (table : List ℕ) (client : ℕ) (image : Image) → 8 * client + 8 ≤ length table
-    → edit (8 * client + 2) (image .level ∷ 0 ∷ image .pointer % 256 ∷ image .pointer / 256 % 256 ∷ 0 ∷ 0 ∷ [])
-    (edit (8 * client) clientMark table)
-    ≡ withImage table client image
+    → {one two : List ℕ} → one ≡ edit (8 * client) clientMark table
+    → two ≡ edit (8 * client + 2)
+    (image .level ∷ 0 ∷ image .pointer % 256 ∷ image .pointer / 256 % 256 ∷ 0 ∷ 0 ∷ []) one
+    → two ≡ withImage table client image
 unfolding withImage imageBytes
-image-written table client image fits = edit-next (8 * client) clientMark _ table (omega arith)
+image-written table client image fits e1 e2 = e2 ∙ ap (edit (8 * client + 2) _) e1
+    ∙ edit-next (8 * client) clientMark _ table (omega arith)
     ∙ ap (λ (l : List ℕ). edit (8 * client) l table) bytes
   where
     bytes : clientMark ++ (image .level ∷ 0 ∷ image .pointer % 256 ∷ image .pointer / 256 % 256 ∷ 0 ∷ 0 ∷ [])

@@ -1,9 +1,7 @@
 -- `commands::read_command` goes by its first two spaces: no letter before the first, no second one, or a letter and two
 -- fields.
-use mathlib.Core.Path.{_∙_, sym}
-use native.Mathlib.Omega.{arith}
-use borrow.Author.Tests.{eq-eqb, ne-eqb}
-use Rattle.commands.specs.Text.Fields.{command-other, command-letter, command-short, command-numbers}
+use Rattle.commands.specs.Text.Fields.{command-other, command-split, command-letter, command-short}
+use Rattle.commands.specs.Text.Fields.{command-numbers}
 use borrow.Author.Needs.{needs}
 use Rattle.commands.proofs.read_command.Statement.{statement}
 use Rattle.commands.proofs.read_command.Tie as tie
@@ -12,36 +10,22 @@ find-requires : tie.Need-find-requires
 find-requires c κs = search needs
 
 returns : tie.Need-returns
-returns c =
-    let a = c .before .before .before .args in
-    sym (command-other (a .line .now) (λ e. c .if1 .taken (c .before .find .ensures .0 ∙ e)))
+returns c = search command-other
 
 shared-slice-read-letter : tie.Need-shared-slice-read-letter
 shared-slice-read-letter c = search needs
 
 returns-2 : tie.Need-returns-2
-returns-2 c =
-    let f = c .before .before .before .before in
-    let a = f .before .before .args in
-    sym (command-letter (a .line .now) (sym (f .find .ensures .0) ∙ c .before .before .before .if1 .left)
-    (c .before .if2 .taken) ∙ rw (eq-eqb _ _ (c .if3 .taken)))
+returns-2 c = search command-split
 
 returns-3 : tie.Need-returns-3
-returns-3 c =
-    let f = c .before .before .before .before in
-    let a = f .before .before .args in
-    sym (command-letter (a .line .now) (sym (f .find .ensures .0) ∙ c .before .before .before .if1 .left)
-    (c .before .if2 .taken) ∙ rw (ne-eqb _ _ (c .if3 .left)))
+returns-3 c = search command-letter
 
 find-requires-2 : tie.Need-find-requires-2
 find-requires-2 c κs = search needs
 
 returns-4 : tie.Need-returns-4
-returns-4 c =
-    let f = c .before .before .before .before .before in
-    let a = f .before .before .args in
-    let first = sym (f .find .ensures .0) ∙ c .before .before .before .before .if1 .left in
-    sym (command-short (a .line .now) first (omega arith) (sym (c .before .find2 .ensures .0) ∙ c .if4 .taken))
+returns-4 c = search command-short
 
 add-next : tie.Need-add-next
 add-next c = search needs
@@ -68,13 +52,7 @@ command-of-requires : tie.Need-command-of-requires
 command-of-requires c κs = search needs
 
 returns-5 : tie.Need-returns-5
-returns-5 c =
-    let n = c .before .before .before .before in
-    let f = n .before .before .before .before in
-    let a = f .before .before .args in
-    let first = sym (f .find .ensures .0) ∙ c .before .before .before .before .before .before .before .if1 .left in
-    c .command-of .ensures ∙ sym
-    (command-numbers (a .line .now) first (omega arith) (n .find2 .result) (n .find2 .ensures .0) (omega arith))
+returns-5 c = search command-numbers
 
 pub read-command-spec : {M : Type 1} → statement M
 read-command-spec =

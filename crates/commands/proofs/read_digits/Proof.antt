@@ -1,12 +1,12 @@
 -- `commands::read_digits` takes digit after digit: what the digits left spell after the value so far stays the same at
 -- each step.
 use Prim.Native.Nat.{_+_, _-_, _≤_}
-use mathlib.Core.Path.{_≡_, _∙_, sym}
+use mathlib.Core.Path.{_≡_}
 use native.Mathlib.Omega.{arith}
 use borrow.Author.Needs.{needs}
 use lib.ListN.{length, drop}
 use Rattle.commands.specs.Text.{numberFrom}
-use Rattle.commands.specs.Text.Reading.{from-end, from-over, from-low, from-high, from-digit}
+use Rattle.commands.specs.Text.Reading.{read-end, read-low, read-high, read-great, read-past, read-digit}
 use Rattle.commands.proofs.read_digits.Statement.{statement}
 use Rattle.commands.proofs.read_digits.Tie as tie
 
@@ -24,16 +24,10 @@ shared-slice-read-byte : tie.Need-shared-slice-read-byte Inv-loop μ-loop
 shared-slice-read-byte c = search needs
 
 returns : tie.Need-returns Inv-loop μ-loop
-returns c =
-    let a = c .before .before .before .before .before .args in
-    let l = c .before .before .before .loop in
-    sym (from-low (a .most + 1) (l .value) (a .field .now) (l .i) (omega arith) (omega arith)) ∙ l .inv .0
+returns c = search read-low
 
 returns-2 : tie.Need-returns-2 Inv-loop μ-loop
-returns-2 c =
-    let a = c .before .before .before .before .before .before .args in
-    let l = c .before .before .before .before .loop in
-    sym (from-high (a .most + 1) (l .value) (a .field .now) (l .i) (omega arith) (omega arith)) ∙ l .inv .0
+returns-2 c = search read-high
 
 wide-requires : tie.Need-wide-requires Inv-loop μ-loop
 wide-requires c κs = search needs
@@ -42,14 +36,7 @@ sub-digit : tie.Need-sub-digit Inv-loop μ-loop
 sub-digit c = search needs
 
 returns-3 : tie.Need-returns-3 Inv-loop μ-loop
-returns-3 c =
-    let a = c .before .before .before .before .before .before .before .before .args in
-    let l = c .before .before .before .before .before .before .loop in
-    let w = c .before .wide in
-    sym
-    (from-over (a .most + 1) (l .value) (a .field .now) (l .i) (omega arith) (w .result) (w .ensures .0) (omega arith)
-    (omega arith) (omega arith))
-    ∙ l .inv .0
+returns-3 c = search read-great
 
 mul-if4 : tie.Need-mul-if4 Inv-loop μ-loop
 mul-if4 c = search needs
@@ -58,14 +45,7 @@ sub-if4 : tie.Need-sub-if4 Inv-loop μ-loop
 sub-if4 c = search needs
 
 returns-4 : tie.Need-returns-4 Inv-loop μ-loop
-returns-4 c =
-    let a = c .before .before .before .before .before .before .before .before .before .args in
-    let l = c .before .before .before .before .before .before .before .loop in
-    let w = c .before .before .wide in
-    sym
-    (from-over (a .most + 1) (l .value) (a .field .now) (l .i) (omega arith) (w .result) (w .ensures .0) (omega arith)
-    (omega arith) (omega arith))
-    ∙ l .inv .0
+returns-4 c = search read-past
 
 mul-value : tie.Need-mul-value Inv-loop μ-loop
 mul-value c = search needs
@@ -80,19 +60,10 @@ loop-less : tie.Need-loop-less Inv-loop μ-loop
 loop-less c = search needs
 
 loop-again : tie.Need-loop-again Inv-loop μ-loop
-loop-again c =
-    let a = c .before .before .before .before .before .before .before .before .before .args in
-    let l = c .before .before .before .before .before .before .before .loop in
-    let w = c .before .before .wide in
-    let step = from-digit (a .most + 1) (l .value) (a .field .now) (l .i) (omega arith) (w .result) (w .ensures .0)
-    (omega arith) (omega arith) in
-    (sym step ∙ l .inv .0, omega arith, omega arith)
+loop-again c = (search read-digit, omega arith, omega arith)
 
 returns-5 : tie.Need-returns-5 Inv-loop μ-loop
-returns-5 c =
-    let a = c .before .before .before .args in
-    let l = c .before .loop in
-    sym (from-end (a .most + 1) (l .value) (a .field .now) (l .i) (omega arith) (omega arith)) ∙ l .inv .0
+returns-5 c = search read-end
 
 pub read-digits-spec : {M : Type 1} → statement M
 read-digits-spec =

@@ -1,5 +1,5 @@
 -- The fields of a line, one after another as the code meets them, and the command that they make.
-use Prim.Native.Nat.{ℕ, suc, _+_, _-_, _^_, _<_}
+use Prim.Native.Nat.{ℕ, suc, _+_, _-_, _^_, _≤_, _<_}
 use mathlib.Core.Path.{_≡_, refl, _∙_, sym, ap}
 use mathlib.Core.Bool.{false, cond, _&&_, and-false}
 use mathlib.Core.List.{List, [], _∷_, _++_}
@@ -14,8 +14,10 @@ use Rattle.commands.specs.Text.{allDigits, isNumber, numberOf, placeOf, 
 use Rattle.commands.specs.Text.{ofFields, commandOf}
 use Rattle.commands.specs.Text.Pieces.{some-piece, together, together-pieces, place-within, pieces-first}
 use Rattle.commands.specs.Text.Pieces.{pieces-more, pieces-last}
-use Rattle.commands.specs.Text.Reading.{number-good, number-bad}
+use Rattle.commands.specs.Text.Reading.{number-good, number-bad, number-small}
+use Rattle.commands.specs.declared.Command.{Command}
 use Rattle.commands.specs.declared.Command.the-variants.{Split, Insert, Search, Scan, Unknown}
+use Rattle.commands.specs.declared.Number.{Number}
 use Rattle.commands.specs.declared.Number.the-variants.{Value, Malformed}
 
 -- the command of a letter, by the letters in turn; a scan's second number has its own limit
@@ -53,7 +55,7 @@ no-space [] two = refl
 no-space (x ∷ xs) two = rw (no-space xs two) (and-false (leb digit0 x && leb x digit9))
 
 module _ (letter : ℕ) (one two : List ℕ) where
-  pub numbers-first : numberOf (2 ^ 64) one ≡ Malformed → ofNumbers letter one two ≡ Unknown
+  numbers-first : numberOf (2 ^ 64) one ≡ Malformed → ofNumbers letter one two ≡ Unknown
   unfolding ofNumbers
   numbers-first e = rw (number-bad (2 ^ 64) one e)
 
@@ -61,7 +63,7 @@ module _ (letter : ℕ) (one two : List ℕ) where
   unfolding ofNumbers
   second-bad e = rw (e, and-false)
 
-  pub numbers-second : numberOf (limitAfter letter) two ≡ Malformed → ofNumbers letter one two ≡ Unknown
+  numbers-second : numberOf (limitAfter letter) two ≡ Malformed → ofNumbers letter one two ≡ Unknown
   numbers-second e = second-bad (number-bad (limitAfter letter) two e)
 
   pub numbers-both : (client number : ℕ) → numberOf (2 ^ 64) one ≡ Value client
@@ -87,6 +89,26 @@ module _ (letter : ℕ) (one two : List ℕ) where
       go first (next ∷ more) is whole =
           rw is (sym (second-bad (rw (ap allDigits (sym whole) ∙ no-space first (together space (next ∷ more))))))
 
+-- the command of two fields, by what was read of each
+module _ (letter : ℕ) (one two : List ℕ) {read : Number} (is : read ≡ numberOf (2 ^ 64) one) where
+  pub first-malformed : read ≡ Malformed → Unknown ≡ ofNumbers letter one two
+  first-malformed told = sym (numbers-first letter one two (sym is ∙ told))
+
+  module _ (most : ℕ) (limit : most + 1 ≡ limitAfter letter) {then : Number} (next : then ≡ numberOf (most + 1) two)
+    where
+      pub second-malformed : then ≡ Malformed → Unknown ≡ ofNumbers letter one two
+      second-malformed told = sym (numbers-second letter one two (rw (← limit) (sym next ∙ told)))
+
+      module _ {number : ℕ} (then-told : then ≡ Value number) where
+        pub number-limited : number < limitAfter letter
+        number-limited = number-small (limitAfter letter) two number (rw (← limit) (sym next ∙ then-told))
+
+        pub both-numbers : {client : ℕ} → read ≡ Value client → {command : Command}
+            → command ≡ named letter client number
+            → command ≡ ofNumbers letter one two
+        both-numbers {client} told e = e
+            ∙ sym (numbers-both letter one two client number (sym is ∙ told) (rw (← limit) (sym next ∙ then-told)))
+
 long-letter : (first : List ℕ) (fields : List (List ℕ)) → (length first ≡ 1 → ⊥) → ofFields (first ∷ fields) ≡ Unknown
 unfolding ofFields
 long-letter [] fields h = refl
@@ -99,9 +121,9 @@ take-one (x ∷ xs) h = refl
 
 -- the command of a line, by what the code finds: where the first space is, and where the next one after the second byte
 module _ (line : List ℕ) where
-  pub command-other : (placeOf space line 0 ≡ 1 → ⊥) → commandOf line ≡ Unknown
+  other-command : (placeOf space line 0 ≡ 1 → ⊥) → commandOf line ≡ Unknown
   unfolding commandOf
-  command-other h =
+  other-command h =
       let (rest, is) = pieces-first space line 0 (omega arith) in
       let size = length-take (placeOf space line 0 - 0) line in
       rw is
@@ -109,9 +131,9 @@ module _ (line : List ℕ) where
       (λ e. h (omega (arith, e, size, place-within space line 0 (omega arith)))))
 
   module _ (first : placeOf space line 0 ≡ 1) where
-    pub command-letter : length line ≡ 1 → commandOf line ≡ cond (eqb (getD line 0 0) letterG) Split Unknown
+    letter-only : length line ≡ 1 → commandOf line ≡ cond (eqb (getD line 0 0) letterG) Split Unknown
     unfolding commandOf ofFields
-    command-letter h = ap ofFields
+    letter-only h = ap ofFields
         (pieces-last space line 0 (omega arith) (first ∙ sym h) ∙ ap (λ (l : List ℕ). l ∷ []) whole)
       where
         whole : line ≡ getD line 0 0 ∷ []
@@ -123,15 +145,15 @@ module _ (line : List ℕ) where
           ∙ ap (λ (p : ℕ). take (p - 0) line ∷ pieces space (drop (suc p) line)) first
           ∙ ap (λ (l : List ℕ). l ∷ pieces space (drop 2 line)) (take-one line (omega arith))
 
-      pub command-short : placeOf space line 2 ≡ length line → commandOf line ≡ Unknown
+      one-field : placeOf space line 2 ≡ length line → commandOf line ≡ Unknown
       unfolding commandOf ofFields
-      command-short h = rw (letter-first, pieces-last space line 2 (omega arith) h)
+      one-field h = rw (letter-first, pieces-last space line 2 (omega arith) h)
 
-      pub command-numbers : (end : ℕ) → end ≡ placeOf space line 2 → end < length line
+      two-fields : (end : ℕ) → end ≡ placeOf space line 2 → end < length line
           → commandOf line ≡ ofNumbers (getD line 0 0) (take (end - 2) (drop 2 line))
           (take (length line - (end + 1)) (drop (end + 1) line))
       unfolding commandOf
-      command-numbers end is h =
+      two-fields end is h =
           let more = pieces-more space line 2 (omega arith) (omega arith) in
           rw (letter-first, more, ← is) (three-fields _ _ (drop (suc end) line) ∙ ap (ofNumbers _ _) rest)
         where
@@ -139,3 +161,27 @@ module _ (line : List ℕ) where
           rest = ap (λ (k : ℕ). drop k line) (sym (add-one end))
               ∙ sym
               (take-all (length line - (end + 1)) (drop (end + 1) line) (omega (arith, length-drop (end + 1) line)))
+
+-- and by what its tests told, one law for each way out
+module _ (line : List ℕ) {at : ℕ} (is : at ≡ placeOf space line 0) where
+  pub command-other : (at ≡ 1 → ⊥) → Unknown ≡ commandOf line
+  command-other h = sym (other-command line (λ e. h (is ∙ e)))
+
+  module _ (first : at ≡ 1) where
+    pub command-split : length line ≡ 1 → getD line 0 0 ≡ letterG → Split ≡ commandOf line
+    command-split h e = sym (letter-only line (sym is ∙ first) h ∙ rw (eq-eqb _ _ e))
+
+    pub command-letter : length line ≡ 1 → (getD line 0 0 ≡ letterG → ⊥) → Unknown ≡ commandOf line
+    command-letter h e = sym (letter-only line (sym is ∙ first) h ∙ rw (ne-eqb _ _ e))
+
+    module _ (inside : at ≤ length line) (some : length line ≡ 1 → ⊥) (end : ℕ) (next : end ≡ placeOf space line 2)
+      where
+        pub command-short : end ≡ length line → Unknown ≡ commandOf line
+        command-short h = sym (one-field line (sym is ∙ first) (omega (arith, some)) (sym next ∙ h))
+
+        pub command-numbers : end ≤ length line → (end ≡ length line → ⊥) → {command : Command}
+            → command ≡ ofNumbers (getD line 0 0) (take (end - 2) (drop 2 line))
+            (take (length line - (end + 1)) (drop (end + 1) line))
+            → command ≡ commandOf line
+        command-numbers within h e = e
+            ∙ sym (two-fields line (sym is ∙ first) (omega (arith, some)) end next (omega (arith, h)))

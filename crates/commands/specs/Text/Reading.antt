@@ -1,7 +1,7 @@
 -- Reading a number digit by digit: each step keeps what is still to be read the same, and a byte that is no digit, or a
 -- number past the limit, spoils it for good.
-use Prim.Native.Nat.{ℕ, _+_, _-_, _*_, _≤_, _<_}
-use mathlib.Core.Path.{_≡_, refl, _∙_}
+use Prim.Native.Nat.{ℕ, _+_, _-_, _*_, _/_, _≤_, _<_}
+use mathlib.Core.Path.{_≡_, refl, _∙_, sym}
 use mathlib.Core.Bool.{Bool, true, false, cond, _&&_, and-false, and-eq-true-iff}
 use mathlib.Core.List.{List, [], _∷_}
 use native.Mathlib.Numerals.{add-one}
@@ -12,6 +12,7 @@ use lib.ListN.{length, getD, drop, drop-of-length-le}
 use lib.Seq.{drop-cons}
 use Rattle.lines.specs.Bytes.{digit0, digit9}
 use Rattle.commands.specs.Text.{allDigits, noSpareZero, spelled, value, isNumber, numberFrom, numberOf}
+use Rattle.commands.specs.declared.Number.{Number}
 use Rattle.commands.specs.declared.Number.the-variants.{Value, Malformed}
 
 pub spelled-least : (v : ℕ) (bs : List ℕ) → v ≤ spelled v bs
@@ -24,27 +25,54 @@ unfolding numberFrom
 number-past limit v h bs = rw (le-ltb (spelled v bs) limit (omega (arith, spelled-least v bs)), and-false)
 
 module _ (limit v : ℕ) where
-  pub from-end : (bytes : List ℕ) (i : ℕ) → length bytes ≤ i → v < limit → numberFrom limit v (drop i bytes) ≡ Value v
+  from-end : (bytes : List ℕ) (i : ℕ) → length bytes ≤ i → v < limit → numberFrom limit v (drop i bytes) ≡ Value v
   unfolding numberFrom allDigits spelled
   from-end bytes i over h = rw (drop-of-length-le bytes over, lt-ltb _ _ h)
 
   module _ (bytes : List ℕ) (i : ℕ) (inside : i < length bytes) where
-    pub from-low : getD bytes i 0 < digit0 → numberFrom limit v (drop i bytes) ≡ Malformed
+    from-low : getD bytes i 0 < digit0 → numberFrom limit v (drop i bytes) ≡ Malformed
     unfolding numberFrom allDigits
     from-low h = rw (drop-cons bytes i 0 inside, lt-leb _ _ h)
 
-    pub from-high : digit9 < getD bytes i 0 → numberFrom limit v (drop i bytes) ≡ Malformed
+    from-high : digit9 < getD bytes i 0 → numberFrom limit v (drop i bytes) ≡ Malformed
     unfolding numberFrom allDigits
     from-high h = rw (drop-cons bytes i 0 inside, lt-leb (getD bytes i 0) _ h, and-false)
 
-    pub from-digit : (w : ℕ) → w ≡ getD bytes i 0 → digit0 ≤ w → w ≤ digit9
+    from-digit : (w : ℕ) → w ≡ getD bytes i 0 → digit0 ≤ w → w ≤ digit9
         → numberFrom limit v (drop i bytes) ≡ numberFrom limit (v * 10 + (w - digit0)) (drop (i + 1) bytes)
     unfolding numberFrom allDigits spelled
     from-digit w e h l = rw (drop-cons bytes i 0 inside, ← e, le-leb digit0 w h, le-leb w digit9 l, add-one)
 
-    pub from-over : (w : ℕ) → w ≡ getD bytes i 0 → digit0 ≤ w → w ≤ digit9 → limit ≤ v * 10 + (w - digit0)
+    from-over : (w : ℕ) → w ≡ getD bytes i 0 → digit0 ≤ w → w ≤ digit9 → limit ≤ v * 10 + (w - digit0)
         → numberFrom limit v (drop i bytes) ≡ Malformed
     from-over w e h l past = from-digit w e h l ∙ number-past limit _ past _
+
+-- one step of the loop, by what its tests told: what is still to be read stays the whole
+module _ (most v : ℕ) (bytes : List ℕ) (i : ℕ) {whole : Number}
+    (so : numberFrom (most + 1) v (drop i bytes) ≡ whole) where
+  pub read-end : length bytes ≤ i → v ≤ most → Value v ≡ whole
+  read-end over h = sym (from-end (most + 1) v bytes i over (omega arith)) ∙ so
+
+  module _ (inside : i < length bytes) where
+    pub read-low : getD bytes i 0 < digit0 → Malformed ≡ whole
+    read-low h = sym (from-low (most + 1) v bytes i inside h) ∙ so
+
+    pub read-high : digit9 < getD bytes i 0 → Malformed ≡ whole
+    read-high h = sym (from-high (most + 1) v bytes i inside h) ∙ so
+
+    module _ {w : ℕ} (is : w ≡ getD bytes i 0) (low : digit0 ≤ getD bytes i 0) (high : getD bytes i 0 ≤ digit9) where
+      pub read-digit : numberFrom (most + 1) (v * 10 + (w - digit0)) (drop (i + 1) bytes) ≡ whole
+      read-digit = sym (from-digit (most + 1) v bytes i inside w is (omega arith) (omega arith)) ∙ so
+
+      read-over : most < v * 10 + (w - digit0) → Malformed ≡ whole
+      read-over past =
+          sym (from-over (most + 1) v bytes i inside w is (omega arith) (omega arith) (omega arith)) ∙ so
+
+      pub read-great : most / 10 < v → Malformed ≡ whole
+      read-great past = read-over (omega arith)
+
+      pub read-past : most - v * 10 < w - digit0 → Malformed ≡ whole
+      read-past past = read-over (omega arith)
 
 -- a field by its length and its first byte: none, one digit, a spare zero, or no spare zero
 module _ (limit : ℕ) where
@@ -61,29 +89,31 @@ module _ (limit : ℕ) where
   unfolding numberOf isNumber
   number-spare bs h = rw (h, and-false)
 
-  pub number-none : (bs : List ℕ) → length bs ≡ 0 → numberOf limit bs ≡ Malformed
+  pub number-none : (bs : List ℕ) → length bs ≡ 0 → Malformed ≡ numberOf limit bs
   unfolding noSpareZero
-  number-none [] h = number-spare [] refl
+  number-none [] h = sym (number-spare [] refl)
   number-none (b ∷ bs) h = absurd (omega arith)
 
-  pub number-one : (bs : List ℕ) → length bs ≡ 1 → numberOf limit bs ≡ numberFrom limit 0 bs
+  pub number-one : (bs : List ℕ) → length bs ≡ 1 → {read : Number} → read ≡ numberFrom limit 0 bs
+      → read ≡ numberOf limit bs
   unfolding noSpareZero
-  number-one [] h = absurd (omega arith)
-  number-one (b ∷ []) h = number-lean (b ∷ []) refl
-  number-one (b ∷ c ∷ cs) h = absurd (omega arith)
+  number-one [] h e = absurd (omega arith)
+  number-one (b ∷ []) h e = e ∙ sym (number-lean (b ∷ []) refl)
+  number-one (b ∷ c ∷ cs) h e = absurd (omega arith)
 
-  pub number-zero : (bs : List ℕ) → 1 < length bs → getD bs 0 0 ≡ digit0 → numberOf limit bs ≡ Malformed
+  pub number-zero : (bs : List ℕ) → (length bs ≡ 0 → ⊥) → (length bs ≡ 1 → ⊥) → getD bs 0 0 ≡ digit0
+      → Malformed ≡ numberOf limit bs
   unfolding noSpareZero
-  number-zero [] h e = absurd (omega arith)
-  number-zero (b ∷ []) h e = absurd (omega arith)
-  number-zero (b ∷ c ∷ cs) h e = number-spare (b ∷ c ∷ cs) (rw (eq-eqb b digit0 e))
+  number-zero [] some more e = absurd (some refl)
+  number-zero (b ∷ []) some more e = absurd (more refl)
+  number-zero (b ∷ c ∷ cs) some more e = sym (number-spare (b ∷ c ∷ cs) (rw (eq-eqb b digit0 e)))
 
-  pub number-many : (bs : List ℕ) → 1 < length bs → (getD bs 0 0 ≡ digit0 → ⊥)
-      → numberOf limit bs ≡ numberFrom limit 0 bs
+  pub number-many : (bs : List ℕ) → (length bs ≡ 0 → ⊥) → (length bs ≡ 1 → ⊥) → (getD bs 0 0 ≡ digit0 → ⊥)
+      → {read : Number} → read ≡ numberFrom limit 0 bs → read ≡ numberOf limit bs
   unfolding noSpareZero
-  number-many [] h e = absurd (omega arith)
-  number-many (b ∷ []) h e = absurd (omega arith)
-  number-many (b ∷ c ∷ cs) h e = number-lean (b ∷ c ∷ cs) (rw (ne-eqb b digit0 e))
+  number-many [] some more h e = absurd (some refl)
+  number-many (b ∷ []) some more h e = absurd (more refl)
+  number-many (b ∷ c ∷ cs) some more h e = e ∙ sym (number-lean (b ∷ c ∷ cs) (rw (ne-eqb b digit0 h)))
 
   -- what a reading tells
   pub number-good : (bs : List ℕ) (n : ℕ) → numberOf limit bs ≡ Value n → (isNumber limit bs ≡ true) × (value bs ≡ n)

@@ -1,12 +1,6 @@
 -- `division::close` writes the head and then lends the unused slots, which come back as zeros.
-use Prim.Native.Nat.{ℕ, _+_, _*_, _-_}
-use mathlib.Core.Path.{ap, _∙_}
-use native.Mathlib.Omega.{arith}
-use lib.ListN.{replicate}
-use Rattle.layout.specs.Bytes.{edit}
-use Rattle.bucket.specs.Region.{slotAt}
-use Rattle.bucket.specs.Region.Divide.{closing}
 use borrow.Author.Needs.{needs}
+use Rattle.bucket.specs.Region.Divide.{close-written}
 use Rattle.division.proofs.close.Statement.{statement}
 use Rattle.division.proofs.close.Tie as tie
 
@@ -47,13 +41,7 @@ same-length : tie.Need-same-length
 same-length c = search needs
 
 returns : tie.Need-returns
-returns c =
-    let d = c .before .before .before .before .before .before .before .before .before in
-    let a = d .args in
-    let h = c .before .before .before .before .before .before .put-head in
-    closing (a .slots) (a .at) (a .count) (h .last .0) (c .before .before .clear .last .0)
-    (omega (arith, h .kept, d .pre .0)) (d .pre .1) (c .before .before .clear .ensures)
-    ∙ ap (edit (a .at + slotAt (a .count)) (replicate {A = ℕ} (24 * (a .slots - a .count)) 0)) (h .ensures)
+returns c = search close-written
 
 pub close-spec : {M : Type 1} → statement M
 close-spec =

@@ -1,10 +1,6 @@
 -- `division::copy_slot` reads three numbers and writes them one behind the other.
-use Prim.Native.Nat.{ℕ, _+_}
-use mathlib.Core.Path.{ap, ap₂, _∙_}
-use mathlib.Core.List.{List}
-use Rattle.layout.specs.Bytes.{leBytes, edit}
-use Rattle.bucket.specs.Region.Write.{copied}
 use borrow.Author.Needs.{needs}
+use Rattle.bucket.specs.Region.Write.{slot-copied}
 use Rattle.division.proofs.copy_slot.Statement.{statement}
 use Rattle.division.proofs.copy_slot.Tie as tie
 
@@ -42,19 +38,7 @@ same-length : tie.Need-same-length
 same-length c = search needs
 
 returns : tie.Need-returns
-returns c =
-    let m = c .before .before .before .before .before .before .before .before .before .before in
-    let r = m .before .before .before .before .before .before .before .before in
-    let a = r .before .args in
-    c .before .before .put83 .ensures
-    ∙ ap₂ (λ (v : ℕ) (l : List ℕ). edit (a .to + 16) (leBytes 8 v) l) (m .before .before .read83 .ensures)
-    (c .before .before .before .before .before .before .put82 .ensures
-    ∙ ap₂ (λ (v : ℕ) (l : List ℕ). edit (a .to + 8) (leBytes 8 v) l)
-    (m .before .before .before .before .read82 .ensures)
-    (m .put8 .ensures ∙ ap (λ (v : ℕ). edit (a .to) (leBytes 8 v) (a .bytes .now))
-    (m .before .before .before .before .before .before .read8 .ensures)))
-    ∙ copied (a .from) (a .to) (a .bytes .now) (λ (k : ℕ). r .slice-known .given k .fits) (r .before .pre .0)
-    (r .before .pre .1)
+returns c = search slot-copied
 
 pub copy-slot-spec : {M : Type 1} → statement M
 copy-slot-spec =

@@ -1,17 +1,10 @@
 -- `division::part_rides`: the rides so far are parted; each turn writes one behind both groups and counts it to one.
 use borrow.Author.Needs.{needs}
-use Prim.Native.Nat.{ℕ, _+_, _*_, _-_, _≤_}
-use mathlib.Core.Path.{sym, ap, subst, _∙_}
-use mathlib.Core.Bool.{Bool, cond}
-use native.Mathlib.Omega.{arith}
-use mathlib.Core.List.{List}
-use lib.Dec.{eqb}
-use Rattle.address.specs.Rules.{hash, keeps}
-use Rattle.address.specs.Rules.Cases.{keeps-is}
-use Rattle.layout.specs.Bytes.{edit, part}
-use Rattle.bucket.specs.Region.{slotAt, keyAt}
-use Rattle.bucket.specs.Region.Divide.{Parted, one-at-most, parted-none, parted-key, parted-again, parted-more}
+use Prim.Native.Nat.{_-_}
+use Rattle.address.specs.Rules.{keeps}
+use Rattle.bucket.specs.Region.Divide.{Parted, parted-none}
 use Rattle.bucket.specs.Region.Divide.{parted-done}
+use Rattle.bucket.specs.Region.Divide.{stay-fits, part-next}
 use Rattle.division.proofs.part_rides.Statement.{statement}
 use Rattle.division.proofs.part_rides.Tie as tie
 
@@ -76,12 +69,7 @@ chosen-requires : tie.Need-chosen-requires Inv-loop μ-loop
 chosen-requires c κs = search needs
 
 add-stay : tie.Need-add-stay Inv-loop μ-loop
-add-stay c =
-    let h = c .before .before .before .before .before .before .before .before .before in
-    let few : c .chosen .result
-    ≤ 1 = one-at-most (eqb (h .hash .result) (h .before .before .before .before .before .before .args .home)) _
-    (c .chosen .ensures) in
-    record { fits = omega arith }
+add-stay c = search stay-fits
 
 add-k : tie.Need-add-k Inv-loop μ-loop
 add-k c = search needs
@@ -91,42 +79,19 @@ loop-less c = search needs
 
 loop-again : tie.Need-loop-again Inv-loop μ-loop
 loop-again c =
-    let m = c .before .before .before .before .before .before .before in
-    let r = m .before .before .before in
-    let e = r .before .before .before .before .before in
-    let a = e .args in
-    let l = r .before .before .before .loop in
-    let own = keeps (a .first) (a .home) (a .level) in
-    let more = r .before .before .loop-test .taken in
-    let at = a .old + (8 + 24 * l .k) in
-    let key = parted-key own (a .bytes .now) (a .slots) (a .old) (a .new) (a .count) (e .pre .1) (l .k) (l .stay)
-    (l .bytes) (l .inv) more (r .read8 .result) (r .read8 .ensures) in
-    let again = parted-again own (a .bytes .now) (a .slots) (a .old) (a .new) (a .count) (e .pre .1) (l .k) (l .stay)
-    (l .bytes) (l .inv) more in
-    subst
-    (λ (bytes : List ℕ). Parted own (a .bytes .now) (a .slots) (a .old) (a .new) (a .count) (l .k + 1)
-    (l .stay + c .chosen .result) bytes)
-    (sym (c .before .before .before .copy-slot2 .ensures
-    ∙ ap (λ (bytes : List ℕ). edit (a .old + (8 + 24 * l .stay)) (part at 24 bytes) bytes) (m .copy-slot .ensures)
-    ∙ ap (λ (slot : List ℕ). edit (a .old + (8 + 24 * l .stay)) slot
-    (edit (a .new + (8 + 24 * (l .k - l .stay))) (part at 24 (l .bytes)) (l .bytes))) again))
-    (parted-more own (a .bytes .now) (a .slots) (a .old) (a .new) (a .count) (e .pre .1) (l .k) (l .stay) (l .bytes)
-    (l .inv) more (c .chosen .result)
-    (c .chosen .ensures ∙ ap (λ (b : Bool). cond b 1 0)
-    (ap (λ (h : ℕ). eqb h (a .home)) (m .before .before .hash .ensures .0 ∙ ap (hash (a .first) (a .level)) key)
-    ∙ sym
-    (keeps-is (a .first) (a .home) (a .level) (keyAt (part (a .old) (slotAt (a .slots)) (a .bytes .now)) (l .k))))))
+    let s = c .before .before .before in
+    let m = s .before .before .before .before in
+    let h = m .before .before in
+    let r = h .before in
+    let t = r .before .before in
+    part-next _ _ _ _ _ _ _ _ (t .before .before .before .pre .1) (t .before .loop .inv) (t .loop-test .taken)
+    (r .read8 .ensures) (h .hash .ensures .0) (m .copy-slot .ensures) (s .copy-slot2 .ensures) (c .chosen .ensures)
 
 same-length : tie.Need-same-length Inv-loop μ-loop
 same-length c = search needs
 
 returns : tie.Need-returns Inv-loop μ-loop
-returns c =
-    let d = c .before .before .before in
-    let a = d .args in
-    let l = c .before .loop in
-    parted-done (keeps (a .first) (a .home) (a .level)) (a .bytes .now) (a .slots) (a .old) (a .new) (a .count)
-    (d .pre .1) (l .k) (l .stay) (l .bytes) (l .inv) (c .loop-test .left)
+returns c = search parted-done
 
 pub part-rides-spec : {M : Type 1} → statement M
 part-rides-spec =

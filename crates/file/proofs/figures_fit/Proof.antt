@@ -1,7 +1,6 @@
 -- `file::figures_fit` tests the ranges first, so that the length they ask for does not wrap.
-use mathlib.Core.Path.{sym}
 use native.Mathlib.Omega.{arith}
-use borrow.Author.Tests.{not-true, not-false}
+use borrow.Author.Tests.{not-false}
 use Rattle.file.specs.File.Judge.{ranges, figures-out, figures-in}
 use Rattle.file.specs.File.Region.{place-room}
 use Rattle.file.proofs.figures_fit.Statement.{statement}
@@ -12,9 +11,7 @@ cast-ranged : tie.Need-cast-ranged
 cast-ranged c = search needs
 
 returns : tie.Need-returns
-returns c =
-    let a = c .before .args in
-    sym (figures-out (a .long) (a .capacity) (a .slots) (a .most) (not-true _ (c .if1 .taken)))
+returns c = search figures-out
 
 mul-result : tie.Need-mul-result
 mul-result c =
@@ -41,9 +38,7 @@ add-result-2 c =
     omega (arith, place-room (a .slots) (a .most) (r .1) (r .5))
 
 returns-2 : tie.Need-returns-2
-returns-2 c =
-    let a = c .before .args in
-    sym (figures-in (a .long) (a .capacity) (a .slots) (a .most) (not-false _ (c .if1 .left)))
+returns-2 c = search figures-in
 
 pub figures-fit-spec : {M : Type 1} → statement M
 figures-fit-spec =

@@ -1,13 +1,8 @@
 -- `file::place_ride` lends the bucket's region, where the ride lands behind those held.
-use mathlib.Core.Path.{_≡_, sym, ap, _∙_}
-use Prim.Native.Nat.{ℕ, _+_, _*_, _-_, _≤_}
-use native.Mathlib.Omega.{arith}
-use lib.ListN.{length, take, drop, length-drop}
-use lib.Seq.{length-take-le}
-use Rattle.bucket.specs.Region.{Ride, Whole}
-use Rattle.file.specs.File.{startOf}
-use Rattle.file.specs.File.Region.{known-fits, known-cut}
-use Rattle.file.specs.File.Write.{with-lent, ride-placed}
+use Rattle.layout.specs.Bytes.{Bytes}
+use Rattle.file.specs.File.Write.{ride-lent}
+use Rattle.bucket.specs.Region.{Whole}
+use Rattle.file.specs.File.Region.{known-fits, known-there}
 use borrow.Author.Needs.{needs}
 use Rattle.file.proofs.place_ride.Statement.{statement}
 use Rattle.file.proofs.place_ride.Tie as tie
@@ -34,10 +29,7 @@ part-place-start : tie.Need-part-place-start
 part-place-start c = search needs
 
 part-place-end : tie.Need-part-place-end
-part-place-end c =
-    let b = c .before .before .before in
-    known-fits (b .args .file .now) (b .args .header) (b .pre .0) (b .args .bucket) (c .start .result)
-    (c .start .ensures .0) (omega (arith, b .pre .1, b .pre .0 .ranges .few))
+part-place-end c = search (known-fits, known-there)
 
 place-requires : tie.Need-place-requires
 place-requires c κs = search needs
@@ -47,38 +39,13 @@ same-length c = search needs
 
 returns : tie.Need-returns
 returns c =
-    let b = c .before .before .before .before .before .before .before in
-    let a = b .args in
-    let seen = b .pre .0 in
-    let at = c .before .before .before .before .start .result in
-    let placed = c .before .before .place in
-    let n : ℕ = at + (8 + 24 * a .header .slots) - at in
-    let head : at ≡ startOf (a .header .slots) (a .bucket) = c .before .before .before .before .start .ensures .0 in
-    let room : n ≤ length (drop at (a .file .now)) =
-    omega (
-      arith,
-      length-drop at (a .file .now),
-      known-fits (a .file .now) (a .header) seen (a .bucket) at head
-          (omega (arith, b .pre .1, seen .ranges .few)),
-    ) in
-    let ride : Ride = record { key = a .key; payload = a .payload .now } in
-    let whole : Whole ride =
-    record {
-      small = b .fits .key .fits;
-      long = b .pre .5;
-      bytes = λ k.
-          c .before .before .before .before .before .shared-slice-known .given k .fits;
-    } in (
-      placed .ensures .0,
-      with-lent (a .file .now) (placed .last .0) (a .bucket) at n
-          (head ∙ ap (λ (S : ℕ). startOf S (a .bucket)) (seen .slots))
-          (sym (placed .kept .0 ∙ length-take-le n (drop at (a .file .now)) room))
-          ∙ ride-placed (a .file .now) (a .header) seen
-          (λ k. c .before .before .before .before .before .before .slice-known .given k .fits) (a .bucket)
-          (b .pre .1) (b .pre .2) ride whole (a .count) (b .pre .3) (b .pre .4)
-          (take n (drop at (a .file .now))) (placed .last .0)
-          (known-cut (a .file .now) (a .header) seen (a .bucket) at head) (placed .ensures .1),
-    )
+    let lent = c .before .before .before .before in
+    let payload = lent .before in
+    let d = payload .before .before in
+    let bytes : Bytes (d .args .file .now) = λ k. payload .before .slice-known .given k .fits in
+    let whole : Whole (record { key = d .args .key; payload = d .args .payload .now }) =
+    record { small = d .fits .key .fits; long = d .pre .5; bytes = λ k. payload .shared-slice-known .given k .fits } in
+    (search needs, search ride-lent)
 
 pub place-ride-spec : {M : Type 1} → statement M
 place-ride-spec =

@@ -7,7 +7,6 @@ use native.Mathlib.Nat.{suc-mul, add-comm, mul-le-mul-right}
 use mathlib.Core.Logic.{by-cases}
 use native.Mathlib.Decide.{decLt}
 use native.Mathlib.Omega.{arith}
-use borrow.Author.Tests.{le-leb}
 use lib.ListN.{length, getD, take, drop, set, replicate, length-append, length-replicate, getD-replicate}
 use lib.ListN.{List·getD-eq-default, replicate-append-replicate}
 use lib.Seq.{take-at, drop-at, getD-append-add}
@@ -16,7 +15,7 @@ use Rattle.address.specs.declared.Image.{Image}
 use Rattle.address.specs.Rules.{«at», buckets}
 use Rattle.address.specs.Rules.Hash.{span-is}
 use Rattle.address.specs.Rules.Cases.{buckets-is, level-rest}
-use Rattle.layout.specs.Bytes.{Bytes, leBytes, marked, allBelow, allZero, edit, part}
+use Rattle.layout.specs.Bytes.{Bytes, leBytes, allBelow, allZero, edit, part}
 use Rattle.layout.specs.Bytes.Tests.{and-both, replicate-zero, zero-all, all-of}
 use Rattle.layout.specs.Bytes.Edit.{edit-seam, part-seam, part-at, length-part, append-bytes, zeros-bytes}
 use Rattle.layout.specs.Bytes.Numbers.{leBytes-two, le-two}
@@ -27,9 +26,9 @@ use Rattle.bucket.specs.Region.Sound.{empty-sound, rides-encode}
 use Rattle.bucket.specs.Region.Encode.{length-encode}
 use Rattle.file.specs.File.{fileMark, mostOf, stateOf, fileLength, figuresFit, stateFits, bucketsOf, headerSound}
 use Rattle.file.specs.File.{startOf, regionOf, bucketSoundIn, regionSound, fileSound, headerBytes, created}
-use Rattle.file.specs.File.{Created, create}
+use Rattle.file.specs.File.{Created, create, firstZero, fixedBytes}
 use Rattle.file.specs.File.Region.{region-is, region-within, region-bucket, region-past}
-use Rattle.file.specs.File.Judge.{Figures, figures, figures-back, state-back}
+use Rattle.file.specs.File.Judge.{Figures, figures, figures-back, state-back, header-back}
 
 -- zeros, of numbers
 abbrev zeros : ℕ → List ℕ
@@ -162,7 +161,7 @@ low-bytes (x ∷ xs) low (suc k) = low-bytes xs (low .1) k
 module _ (b S M : ℕ) (fits : Figures (fileLength S M) b S M) where
   -- its first 16 bytes, and those behind them
   head : List ℕ
-  head = 76 ∷ 70 ∷ 0 ∷ b ∷ 0 ∷ 0 ∷ M % 256 ∷ M / 256 % 256 ∷ S ∷ zeros 7
+  head = 76 ∷ 70 ∷ 0 ∷ b ∷ 0 ∷ 0 ∷ M % 256 ∷ M / 256 % 256 ∷ S ∷ zeros (16 - firstZero)
 
   behind : List ℕ
   behind = encode S 0 [] ++ zeros ((M - 1) * (8 + 24 * S))
@@ -170,7 +169,7 @@ module _ (b S M : ℕ) (fits : Figures (fileLength S M) b S M) where
   is-laid : created b S M ≡ head ++ behind
   unfolding created headerBytes head behind
   is-laid = ap₂
-      (λ (p q : List ℕ). fileMark ++ (0 ∷ b ∷ []) ++ p ++ q ++ (S ∷ []) ++ zeros 7
+      (λ (p q : List ℕ). fileMark ++ (0 ∷ b ∷ []) ++ p ++ q ++ (S ∷ []) ++ zeros (16 - firstZero)
       ++ (encode S 0 [] ++ zeros ((M - 1) * (8 + 24 * S)))) (leBytes-two 0) (leBytes-two M)
 
   most : mostOf (head ++ behind) ≡ M
@@ -198,22 +197,24 @@ module _ (b S M : ℕ) (fits : Figures (fileLength S M) b S M) where
   unfolding head
   laid-at k = getD-append-add head behind k 0
 
-  fixed : (marked (head ++ behind) 0 fileMark && allZero (part 9 7 (head ++ behind))) ≡ true
+  fixed : fixedBytes (head ++ behind) ≡ true
   unfolding head
-  fixed = ap allZero (part-seam 9 (76 ∷ 70 ∷ 0 ∷ b ∷ 0 ∷ 0 ∷ M % 256 ∷ M / 256 % 256 ∷ S ∷ []) (zeros 7) behind refl)
-      ∙ replicate-zero 7
+  fixed = ap allZero
+      (part-seam firstZero (76 ∷ 70 ∷ 0 ∷ b ∷ 0 ∷ 0 ∷ M % 256 ∷ M / 256 % 256 ∷ S ∷ []) (zeros (16 - firstZero)) behind
+      refl)
+      ∙ replicate-zero (16 - firstZero)
 
   one-bucket : buckets firstBuckets («at» 0 0) ≡ 1
   one-bucket = buckets-is firstBuckets («at» 0 0) ∙ omega (arith, span-is firstBuckets 0)
 
   laid-header : headerSound (head ++ behind) ≡ true
-  unfolding headerSound head
-  laid-header = and-both _ _
-      (and-both _ _ (and-both _ _ (le-leb 16 (length (head ++ behind)) (omega (arith, laid-long))) fixed)
-      (ap₂ (λ (n m : ℕ). figuresFit n b S m) laid-long most ∙ figures-back (fileLength S M) b S M fits))
+  unfolding head
+  laid-header = header-back (head ++ behind) (omega (arith, laid-long)) fixed
+      (and-both _ _
+      (ap₂ (λ (n m : ℕ). figuresFit n b S m) laid-long most ∙ figures-back (fileLength S M) b S M fits)
       (ap₂ stateFits state most
       ∙ state-back («at» 0 0) M (omega (arith, span-is firstBuckets 0))
-      (omega (arith, one-bucket, fits .some-buckets)))
+      (omega (arith, one-bucket, fits .some-buckets))))
 
   -- its first region is an empty bucket of level 0, the others are zero
   first-region : regionOf (head ++ behind) 0 ≡ encode S 0 []

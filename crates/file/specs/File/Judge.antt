@@ -1,25 +1,27 @@
--- A header judged: what a sound one shows, and the judging functions' ways, test by test.
-use Prim.Native.Nat.{ℕ, suc, _+_, _*_, _≤_, _<_}
+-- A header judged: what a sound one shows, and the ways of the functions that judge it.
+use Prim.Native.Nat.{ℕ, suc, _+_, _-_, _≤_, _<_}
 use mathlib.Core.Path.{_≡_, refl, sym, ap, ap₂, _∙_}
-use mathlib.Core.Bool.{Bool, true, false, cond, _&&_}
-use mathlib.Core.List.{List, []}
+use mathlib.Core.Bool.{Bool, true, false, cond, not, _&&_}
+use mathlib.Core.List.{List}
 use mathlib.Core.Logic.{by-cases}
 use native.Mathlib.Decide.{decLt}
 use native.Mathlib.Omega.{arith}
-use borrow.Author.Tests.{ltb-true, leb-true, eqb-true, lt-leb, le-leb, lt-ltb, eq-eqb}
+use borrow.Author.Tests.{ltb-true, leb-true, eqb-true, lt-leb, le-leb, lt-ltb, eq-eqb, not-true, not-false}
 use lib.Dec.{leb, ltb, eqb}
-use lib.ListN.{length}
+use lib.ListN.{length, take, drop}
 use Rattle.address.specs.Limits.{firstBuckets, mostLevel, mostBuckets, mostSlots}
 use Rattle.address.specs.declared.Image.{Image}
 use Rattle.address.specs.Room.{ImageRoom}
-use Rattle.address.specs.Rules.{«at», Formed, span, buckets}
+use Rattle.address.specs.Rules.{Formed, span, buckets}
 use Rattle.address.specs.Rules.Hash.{span-is, span-mono}
 use Rattle.address.specs.Rules.Cases.{buckets-is}
-use Rattle.layout.specs.Bytes.{byteAt, leAt, marked, allZero, part}
+use Rattle.layout.specs.Bytes.{byteAt, leAt, marked, allZero}
+use Rattle.layout.specs.Bytes.Edit.{part-is}
 use Rattle.layout.specs.Bytes.Tests.{and-left, and-right, and-none}
 use Rattle.file.specs.declared.Header.{Header}
 use Rattle.file.specs.File.{fileMark, capacityOf, mostOf, slotsOf, stateOf, fileLength, figuresFit, bucketsOf}
-use Rattle.file.specs.File.{stateFits, headerSound, headerOf}
+use Rattle.file.specs.File.{stateFits, firstZero, fixedBytes, figuresOf, rangesFit, headerSound, noHeader}
+use Rattle.file.specs.File.{headerOf}
 
 -- spans above the highest level are past every limit
 span-high : (k : ℕ) → mostLevel < k → mostBuckets < span firstBuckets k
@@ -41,13 +43,13 @@ abbrev pub ranged : ℕ → ℕ → ℕ → Bool
 ranged b S M = leb 1 S && leb S mostSlots && leb 1 b && leb b S && leb 1 M && leb M mostBuckets
 
 module _ (long b S M : ℕ) where
-  pub figures-out : ranged b S M ≡ false → figuresFit long b S M ≡ false
+  pub figures-out : not (ranged b S M) ≡ true → false ≡ figuresFit long b S M
   unfolding figuresFit
-  figures-out h = rw h
+  figures-out h = rw (not-true (ranged b S M) h)
 
-  pub figures-in : ranged b S M ≡ true → figuresFit long b S M ≡ eqb long (16 + M * (8 + 24 * S))
+  pub figures-in : not (ranged b S M) ≡ false → eqb long (fileLength S M) ≡ figuresFit long b S M
   unfolding figuresFit
-  figures-in h = rw h
+  figures-in h = rw (not-false (ranged b S M) h)
 
   pub ranges : ranged b S M ≡ true → (1 ≤ S) × (S ≤ mostSlots) × (1 ≤ b) × (b ≤ S) × (1 ≤ M) × (M ≤ mostBuckets)
   ranges h =
@@ -91,17 +93,17 @@ module _ (long b S M : ℕ) where
 -- ---- the state
 
 module _ (state : Image) (M : ℕ) where
-  pub state-high : M ≤ mostBuckets → mostLevel < state .level → stateFits state M ≡ false
+  pub state-high : M ≤ mostBuckets → mostLevel < state .level → false ≡ stateFits state M
   unfolding stateFits
-  state-high few high = and-none (ltb (state .pointer) (span firstBuckets (state .level)))
+  state-high few high = sym (and-none (ltb (state .pointer) (span firstBuckets (state .level)))
       (leb (buckets firstBuckets state) M)
       (lt-leb (buckets firstBuckets state) M
-      (omega (arith, buckets-is firstBuckets state, span-high (state .level) high)))
+      (omega (arith, buckets-is firstBuckets state, span-high (state .level) high))))
 
-  pub state-is : (s n : ℕ) → s ≡ span firstBuckets (state .level) → n ≡ buckets firstBuckets state
+  pub state-is : {s n : ℕ} → s ≡ span firstBuckets (state .level) → n ≡ buckets firstBuckets state
       → (ltb (state .pointer) s && leb n M) ≡ stateFits state M
   unfolding stateFits
-  state-is s n es en = rw (es, en)
+  state-is es en = rw (es, en)
 
   pub state-back : Formed firstBuckets state → buckets firstBuckets state ≤ M → stateFits state M ≡ true
   unfolding stateFits
@@ -135,92 +137,112 @@ pub record Ranges (file : List ℕ) : Type 0 where
   pub few : bucketsOf file ≤ mostOf file
   pub low : stateOf file .level ≤ mostLevel
 
+-- a sound header's three parts, and back
+module _ (file : List ℕ) where
+  pub header-parts : headerSound file ≡ true
+      → (16 ≤ length file) × (fixedBytes file ≡ true) × (rangesFit (length file) (figuresOf file) ≡ true)
+  unfolding headerSound
+  header-parts h =
+      let front = and-left _ _ h in (
+        leb-true _ _ (and-left _ _ front),
+        and-right (leb 16 (length file)) _ front,
+        and-right (leb 16 (length file) && fixedBytes file) _ h,
+      )
+
+  pub header-back : 16 ≤ length file → fixedBytes file ≡ true → rangesFit (length file) (figuresOf file) ≡ true
+      → headerSound file ≡ true
+  unfolding headerSound
+  header-back long fixed ranged = rw (le-leb 16 (length file) long, fixed) ranged
+
 pub header-ranges : (file : List ℕ) → headerSound file ≡ true → Ranges file
-unfolding headerSound bucketsOf
+unfolding bucketsOf
 header-ranges file h =
-    let fits = figures _ _ _ _
-    (and-right (leb 16 (length file) && (marked file 0 fileMark && allZero (part 9 7 file))) _ (and-left _ _ h)) in
+    let parts = header-parts file h in
+    let fits = figures _ _ _ _ (and-left _ _ (parts .2)) in
     let state = state-formed (stateOf file) (mostOf file)
-    (and-right
-    (leb 16 (length file) && (marked file 0 fileMark && allZero (part 9 7 file))
-    && figuresFit (length file) (capacityOf file) (slotsOf file) (mostOf file)) _ h) in
+    (and-right (figuresFit (length file) (capacityOf file) (slotsOf file) (mostOf file)) _ (parts .2)) in
     record {
       figured = fits;
       formed = state .0;
       few = state .1;
-      low = by-cases (decLt mostLevel (stateOf file .level))
-          (λ l. absurd
-          (omega (
-            arith,
-            span-high (stateOf file .level) l,
-            buckets-is firstBuckets (stateOf file),
-            state .1,
-            fits .few-buckets,
-          )))
-          (λ l. omega arith);
+      low = state-small (stateOf file) (mostOf file) (fits .few-buckets) (state .0) (state .1) .0;
     }
 
 -- the header that is read, by its cases
-pub header-unsound : (file : List ℕ) → headerSound file ≡ false
-    → record { sound = false; state = «at» 0 0; capacity = 0; slots = 0; most = 0 } ≡ headerOf file
+pub header-unsound : (file : List ℕ) → headerSound file ≡ false → noHeader ≡ headerOf file
 unfolding headerOf
 header-unsound file h = rw h
 
-pub header-sound : (file : List ℕ) → headerSound file ≡ true
-    → headerOf file
-    ≡ record {
-      sound = true;
-      state = stateOf file;
-      capacity = capacityOf file;
-      slots = slotsOf file;
-      most = mostOf
-          file;
-    }
+pub header-sound : (file : List ℕ) → headerSound file ≡ true → headerOf file ≡ figuresOf file
 unfolding headerOf
 header-sound file h = rw h
 
--- the judging function's way, test by test
+-- ---- reading and judging it
+
+-- the figures that are read, one by one
+pub record FiguresOf (file : List ℕ) (header : Header) : Type 0 where
+  pub sound : header .sound ≡ true
+  pub level : header .state .level ≡ byteAt file 2
+  pub pointer : header .state .pointer ≡ leAt 2 file 4
+  pub capacity : header .capacity ≡ capacityOf file
+  pub slots : header .slots ≡ slotsOf file
+  pub most : header .most ≡ mostOf file
+  pub low : header .state .pointer < 65536
+
+pub figures-of : (file : List ℕ) (header : Header) → FiguresOf file header → header ≡ figuresOf file
+unfolding stateOf
+figures-of file header read = λ i. record {
+  sound = read .sound i;
+  state = record { level = read .level i; pointer = read .pointer i };
+  capacity = read .capacity i;
+  slots = read .slots i;
+  most = read .most i;
+}
+
+-- the fixed bytes, the zeros cut out of the file
+pub fixed-read : (file : List ℕ) {mark zeros : Bool} → mark ≡ marked file 0 fileMark
+    → zeros ≡ allZero (take (16 - firstZero) (drop firstZero file)) → (mark && zeros) ≡ fixedBytes file
+fixed-read file em ez = ap₂ _&&_ em (ez ∙ ap allZero (sym (part-is firstZero (16 - firstZero) file)))
+
+-- the ranges, and the header's ways: too short, not its fixed bytes, out of range, sound
+module _ (long : ℕ) (header : Header) {fits : Bool}
+    (ef : fits ≡ figuresFit long (header .capacity) (header .slots) (header .most)) where
+  pub ranges-figures : not fits ≡ true → false ≡ rangesFit long header
+  ranges-figures h = rw (sym ef ∙ not-true fits h)
+
+  pub ranges-few : not fits ≡ false → header .most ≤ mostBuckets
+  ranges-few h = figures long _ _ _ (sym ef ∙ not-false fits h) .few-buckets
+
+  pub ranges-state : not fits ≡ false → {stated : Bool} → stated ≡ stateFits (header .state) (header .most)
+      → stated ≡ rangesFit long header
+  ranges-state h es = rw (sym ef ∙ not-false fits h) es
+
 module _ (file : List ℕ) where
-  pub judged-short : length file < 16 → headerSound file ≡ false
+  pub header-short : {none : Header} → none ≡ noHeader → length file < 16 → none ≡ headerOf file
   unfolding headerSound
-  judged-short h = rw (lt-leb 16 (length file) h)
+  header-short e h = e ∙ header-unsound file (rw (lt-leb 16 (length file) h))
 
-  module _ (long : 16 ≤ length file) (mark zeros : Bool) (em : mark ≡ marked file 0 fileMark)
-      (ez : zeros ≡ allZero (part 9 7 file)) where
-    pub judged-fixed : (mark && zeros) ≡ false → headerSound file ≡ false
+  pub header-unfixed : {none : Header} → none ≡ noHeader → {fixed : Bool} → fixed ≡ fixedBytes file → not fixed ≡ true
+      → none ≡ headerOf file
+  unfolding headerSound
+  header-unfixed e {fixed} ef h = e ∙ header-unsound file
+      (rw (and-none (leb 16 (length file)) (fixedBytes file) (sym ef ∙ not-true fixed h)))
+
+  module _ {header : Header} (read : FiguresOf file header) {fits : Bool}
+      (er : fits ≡ rangesFit (length file) header) where
+    judged : fits ≡ rangesFit (length file) (figuresOf file)
+    judged = er ∙ ap (rangesFit (length file)) (figures-of file header read)
+
+    pub header-unranged : {none : Header} → none ≡ noHeader → not fits ≡ true → none ≡ headerOf file
     unfolding headerSound
-    judged-fixed h = rw (le-leb 16 (length file) long, sym (ap₂ _&&_ em ez) ∙ h)
+    header-unranged e h = e ∙ header-unsound file
+        (and-none (leb 16 (length file) && fixedBytes file) _ (sym judged ∙ not-true fits h))
 
-    module _ (right : (mark && zeros) ≡ true) (b S M : ℕ) (eb : b ≡ byteAt file 3) (eS : S ≡ byteAt file 8)
-        (eM : M ≡ leAt 2 file 6)
-        (fits : Bool) (ef : fits ≡ figuresFit (length file) b S M) where
-      figured : fits ≡ figuresFit (length file) (capacityOf file) (slotsOf file) (mostOf file)
-      figured = ef ∙ ap (λ (x : ℕ). figuresFit (length file) x S M) eb
-          ∙ ap (λ (x : ℕ). figuresFit (length file) (byteAt file 3) x M) eS
-          ∙ ap (figuresFit (length file) (byteAt file 3) (byteAt file 8)) eM
-
-      pub judged-figures : fits ≡ false → headerSound file ≡ false
-      unfolding headerSound
-      judged-figures h = rw (le-leb 16 (length file) long, sym (ap₂ _&&_ em ez) ∙ right, sym figured ∙ h)
-
-      pub judged-few : fits ≡ true → M ≤ mostBuckets
-      judged-few h = figures (length file) b S M (sym ef ∙ h) .few-buckets
-
-      module _ (fine : fits ≡ true) (l n : ℕ) (el : l ≡ byteAt file 2) (en : n ≡ leAt 2 file 4) (stated : Bool)
-          (es : stated ≡ stateFits («at» l n) M) where
-        here : «at» l n ≡ stateOf file
-        unfolding stateOf
-        here = λ i. record { level = el i; pointer = en i }
-
-        pub judged-state : headerSound file ≡ stated
-        unfolding headerSound
-        judged-state = rw (le-leb 16 (length file) long, sym (ap₂ _&&_ em ez) ∙ right, sym figured ∙ fine)
-            (sym (es ∙ ap₂ stateFits here eM))
-
-        pub judged-header : stated ≡ true
-            → record { sound = true; state = «at» l n; capacity = b; slots = S; most = M } ≡ headerOf file
-        judged-header h = (λ i. record { sound = true; state = here i; capacity = eb i; slots = eS i; most = eM i })
-            ∙ sym (header-sound file (judged-state ∙ h))
+    pub header-judged : 16 ≤ length file → {fixed : Bool} → fixed ≡ fixedBytes file → not fixed ≡ false
+        → not fits ≡ false → header ≡ headerOf file
+    header-judged long {fixed} ef right h = figures-of file header read ∙ sym
+        (header-sound file
+        (header-back file long (sym ef ∙ not-false fixed right) (sym judged ∙ not-false fits h)))
 
 -- ---- what is known of a file whose header was judged sound
 
@@ -245,17 +267,7 @@ pub header-flag : (file : List ℕ) → headerOf file .sound ≡ headerSound fil
 unfolding headerOf
 header-flag file = go (headerSound file)
   where
-    go : (flag : Bool)
-        → (cond {A = Header} flag
-        (record {
-          sound = true;
-          state = stateOf file;
-          capacity = capacityOf file;
-          slots = slotsOf file;
-          most = mostOf
-              file;
-        })
-        (record { sound = false; state = «at» 0 0; capacity = 0; slots = 0; most = 0 })) .sound ≡ flag
+    go : (flag : Bool) → (cond {A = Header} flag (figuresOf file) noHeader) .sound ≡ flag
     go true = refl
     go false = refl
 
@@ -285,6 +297,19 @@ known file header e h =
       };
     }
 
+-- the same from the test that the flag has passed, or not
+pub known-passed : (file : List ℕ) (header : Header) → header ≡ headerOf file → not (header .sound) ≡ false
+    → Known file header
+known-passed file header e h = known file header e (not-false (header .sound) h)
+
+pub room-passed : (file : List ℕ) (header : Header) → header ≡ headerOf file → not (header .sound) ≡ false
+    → ImageRoom firstBuckets (header .state)
+room-passed file header e h = known-passed file header e h .room
+
 pub unknown : (file : List ℕ) (header : Header) → header ≡ headerOf file → header .sound ≡ false
     → headerSound file ≡ false
 unknown file header e h = sym (header-flag file) ∙ ap (λ (x : Header). x .sound) (sym e) ∙ h
+
+pub unknown-failed : (file : List ℕ) (header : Header) → header ≡ headerOf file → not (header .sound) ≡ true
+    → headerSound file ≡ false
+unknown-failed file header e h = unknown file header e (not-true (header .sound) h)

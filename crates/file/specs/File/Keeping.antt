@@ -1,6 +1,6 @@
 -- What insert and split keep: a fresh ride in its own bucket leaves a sound file sound with just that ride more,
 -- and a split leaves a sound file sound, with the rides of one bucket in two. Every region not written stays.
-use Prim.Native.Nat.{ℕ, suc, _+_, _≤_, _<_}
+use Prim.Native.Nat.{ℕ, suc, _≤_, _<_}
 use mathlib.Core.Path.{_≡_, sym, ap, ap₂, _∙_}
 use mathlib.Core.Bool.{true, cond, _&&_}
 use mathlib.Core.List.{List, [], _∷_, _++_}
@@ -283,7 +283,8 @@ module _ (file : List ℕ) (bytes : Bytes file) (sound : fileSound file ≡ true
       ∙ with-other file ranges (splitting (stateOf file)) old-in (half (splitting (stateOf file)))
       (half-long (splitting (stateOf file))) b l apart
 
-  next-small : (grown firstBuckets (stateOf file) .level ≤ mostLevel) × (grown firstBuckets (stateOf file) .pointer ≤ mostBuckets)
+  next-small : (grown firstBuckets (stateOf file) .level ≤ mostLevel)
+      × (grown firstBuckets (stateOf file) .pointer ≤ mostBuckets)
   next-small = state-small (grown firstBuckets (stateOf file)) (mostOf file) (ranges .figured .few-buckets) next-formed
       (omega (arith, next-buckets))
 

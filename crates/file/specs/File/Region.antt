@@ -72,6 +72,9 @@ module _ (file : List ℕ) (header : Header) (seen : Known file header) where
   unfolding bucketsOf
   buckets-known n e = e ∙ ap (buckets firstBuckets) (seen .state)
 
+  pub known-there : {a : ℕ} → a < bucketsOf file → a < mostOf file
+  known-there h = omega (arith, seen .ranges .few)
+
   module _ (a at : ℕ) (ea : at ≡ startOf (header .slots) a) where
     pub known-cut : take (at + (8 + 24 * header .slots) - at) (drop at file) ≡ regionOf file a
     known-cut = region-cut file (header .slots) a at (at + (8 + 24 * header .slots)) (seen .slots) ea refl
@@ -95,10 +98,13 @@ module _ (file : List ℕ) (header : Header) (seen : Known file header) where
               (arith, level-high firstBuckets (header .state) a, seen .room .levels .low);
         }
 
-    pub known-judged : soundWith (header .slots) l (keeps firstBuckets a l) (regionOf file a) ≡ bucketSoundIn file a
+    pub known-judged : {region : List ℕ} → region ≡ regionOf file a → {sound : Bool}
+        → sound ≡ soundWith (header .slots) l (keeps firstBuckets a l) region
+        → sound ≡ bucketSoundIn file a
     unfolding bucketSoundIn bucketsOf
-    known-judged =
-        ap₂ (λ (S k : ℕ). soundWith S k (keeps firstBuckets a k) (regionOf file a)) (seen .slots)
+    known-judged er es =
+        es ∙ ap (soundWith (header .slots) l (keeps firstBuckets a l)) er
+        ∙ ap₂ (λ (S k : ℕ). soundWith S k (keeps firstBuckets a k) (regionOf file a)) (seen .slots)
         (el ∙ ap (λ (s : Image). level firstBuckets s a) (seen .state))
         ∙ sym
         (bucket-judged firstBuckets (omega arith) (stateOf file) (seen .ranges .formed) (slotsOf file) a exists
@@ -112,6 +118,18 @@ region-bucket file a h = rw (lt-ltb a (bucketsOf file) h)
 pub region-past : (file : List ℕ) (a : ℕ) → bucketsOf file ≤ a → regionSound file a ≡ allZero (regionOf file a)
 unfolding regionSound
 region-past file a h = rw (le-ltb a (bucketsOf file) h)
+
+-- how a region is judged that is a bucket's by the state read, or one past the last bucket
+module _ (file : List ℕ) (header : Header) (seen : Known file header) (a : ℕ) {n : ℕ}
+    (en : n ≡ buckets firstBuckets (header .state)) where
+  pub known-below : a < n → a < bucketsOf file
+  known-below h = omega (arith, buckets-known file header seen n en)
+
+  pub region-below : a < n → {sound : Bool} → sound ≡ bucketSoundIn file a → sound ≡ regionSound file a
+  region-below h e = e ∙ sym (region-bucket file a (known-below h))
+
+  pub region-behind : n ≤ a → {clean : Bool} → clean ≡ allZero (regionOf file a) → clean ≡ regionSound file a
+  region-behind h e = e ∙ sym (region-past file a (omega (arith, buckets-known file header seen n en)))
 
 -- ---- the lowest unsound region
 
@@ -194,6 +212,12 @@ sound-few file a h = bucket-few firstBuckets (stateOf file) (slotsOf file) a (re
 pub count-in : (file : List ℕ) (a : ℕ) → countOf (regionOf file a) ≡ leAt 2 file (startOf (slotsOf file) a + 4)
 count-in file a = ap (λ (r : List ℕ). leAt 2 r 4) (region-is file a)
     ∙ le-part 2 file (startOf (slotsOf file) a) (slotAt (slotsOf file)) 4 (omega arith)
+
+-- a slot in use is one of the file's
+pub known-slot : (file : List ℕ) (header : Header) → Known file header → (a k : ℕ) → bucketSoundIn file a ≡ true
+    → k < countOf (regionOf file a)
+    → k < header .slots
+known-slot file header seen a k sound used = omega (arith, sound-few file a sound, seen .slots)
 
 -- the count read at a region's place is the region's
 pub known-count : (file : List ℕ) (header : Header) → Known file header → (a at : ℕ) → at ≡ startOf (header .slots) a

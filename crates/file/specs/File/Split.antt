@@ -7,13 +7,14 @@ use mathlib.Core.List.{List, [], _∷_}
 use mathlib.Core.Logic.{_⊎_, inl, inr, ⊎-elim}
 use native.Mathlib.Numerals.{add-one}
 use native.Mathlib.Omega.{arith}
-use borrow.Author.Tests.{eqb-true, le-leb, lt-leb}
+use borrow.Author.Tests.{eqb-true, le-leb, lt-leb, not-true, not-false}
 use lib.Dec.{leb, eqb}
 use lib.ListN.{length}
 use Rattle.address.specs.Compare.{below}
 use Rattle.address.specs.Limits.{firstBuckets, noBucket, mostLevel, mostBuckets}
 use Rattle.address.specs.declared.Image.{Image}
-use Rattle.address.specs.Rules.{Formed, address, level, keeps, splitting, newborn, grown}
+use Rattle.address.specs.Room.{Room}
+use Rattle.address.specs.Rules.{Formed, buckets, address, level, keeps, splitting, newborn, grown}
 use Rattle.address.specs.Rules.Hash.{span-pos}
 use Rattle.address.specs.Rules.Cases.{keeps-yes, keeps-no, newborn-is}
 use Rattle.address.specs.Rules.Grow.{divided-cases, newborn-next, grown-formed, grown-buckets}
@@ -26,9 +27,9 @@ use Rattle.bucket.specs.Region.Encode.{length-encode}
 use Rattle.bucket.specs.Region.Keep.{kept-agree}
 use Rattle.file.specs.declared.Header.{Header}
 use Rattle.file.specs.File.{mostOf, slotsOf, stateOf, bucketsOf, headerSound, startOf, regionOf, bucketSoundIn}
-use Rattle.file.specs.File.{withRegion, withState, staying, divided, SplitOutcome, split}
-use Rattle.file.specs.File.Judge.{Known, buckets-of, state-small}
-use Rattle.file.specs.File.Region.{region-is, region-apart, region-fits}
+use Rattle.file.specs.File.{withRegion, withState, staying, divided, SplitOutcome, split, headerOf}
+use Rattle.file.specs.File.Judge.{Known, buckets-of, state-small, unknown-failed}
+use Rattle.file.specs.File.Region.{region-is, region-apart, region-fits, buckets-known}
 use Rattle.file.specs.File.Write.{with-slots, Shown, shown}
 
 -- of the keys of bucket n, those whose h_{i+1} is not n are those that belong to the new bucket
@@ -52,54 +53,72 @@ moves s formed rides all = kept-agree (λ key. eqb (address firstBuckets s key) 
         ∙ sym (ap not (keeps-yes firstBuckets (splitting s) (suc (s .level)) key e)))
         (λ e. keeps-yes firstBuckets (newborn firstBuckets s) (suc (s .level)) key e
         ∙ sym (ap not (keeps-no firstBuckets (splitting s) (suc (s .level)) key (λ h. apart (sym e ∙ h)))))
-        (divided-cases firstBuckets (omega arith) s formed key (eqb-true (address firstBuckets s key) (splitting s) own))
+        (divided-cases firstBuckets (omega arith) s formed key
+        (eqb-true (address firstBuckets s key) (splitting s) own))
 
 -- where the two buckets of a split lie
-module _ (file : List ℕ) (header : Header) (seen : Known file header) (more : bucketsOf file < mostOf file)
-    (old new : ℕ)
-    (eo : old ≡ splitting (header .state)) (en : new ≡ newborn firstBuckets (header .state)) where
-  pub number : old ≡ splitting (stateOf file)
-  number = eo ∙ ap (λ (s : Image). s .pointer) (seen .state)
+module _ (file : List ℕ) (header : Header) (seen : Known file header) where
+  pub split-number : {old : ℕ} → old ≡ splitting (header .state) → old ≡ splitting (stateOf file)
+  split-number eo = eo ∙ ap (λ (s : Image). splitting s) (seen .state)
 
-  pub born : new ≡ newborn firstBuckets (stateOf file)
-  born = en ∙ ap (newborn firstBuckets) (seen .state)
+  pub split-born : {new : ℕ} → new ≡ newborn firstBuckets (header .state) → new ≡ newborn firstBuckets (stateOf file)
+  split-born en = en ∙ ap (newborn firstBuckets) (seen .state)
 
-  pub old-exists : old < bucketsOf file
-  old-exists = omega
-      (arith, number, buckets-of file, seen .ranges .formed, span-pos firstBuckets (omega arith) (stateOf file .level))
+  pub old-exists : {old : ℕ} → old ≡ splitting (header .state) → old < bucketsOf file
+  old-exists eo = omega (
+    arith,
+    split-number eo,
+    buckets-of file,
+    seen .ranges .formed,
+    span-pos firstBuckets (omega arith) (stateOf file .level),
+  )
 
-  pub new-next : new ≡ bucketsOf file
+  pub old-low : {old : ℕ} → old ≡ splitting (header .state) → old ≤ mostBuckets
+  old-low eo = omega (arith, old-exists eo, seen .ranges .few, seen .ranges .figured .few-buckets)
+
+  pub new-next : {new : ℕ} → new ≡ newborn firstBuckets (header .state) → new ≡ bucketsOf file
   unfolding bucketsOf
-  new-next = born ∙ newborn-next firstBuckets (omega arith) (stateOf file) (seen .ranges .formed)
+  new-next en = split-born en ∙ newborn-next firstBuckets (omega arith) (stateOf file) (seen .ranges .formed)
 
--- the state that a split leaves is small
-pub grown-small : (file : List ℕ) (header : Header) → Known file header → bucketsOf file < mostOf file
-    → (grown firstBuckets (header .state) .level ≤ mostLevel) × (grown firstBuckets (header .state) .pointer ≤ mostBuckets)
-unfolding bucketsOf
-grown-small file header seen more = rw (seen .state)
-    (state-small (grown firstBuckets (stateOf file)) (mostOf file) (seen .ranges .figured .few-buckets)
-    (grown-formed firstBuckets (omega arith) (stateOf file) (seen .ranges .formed))
-    (omega (arith, grown-buckets firstBuckets (omega arith) (stateOf file) (seen .ranges .formed))))
+  pub level-next : Room firstBuckets (header .state .level + 1)
+  level-next = record { some = omega arith; few = omega arith; low = omega (arith, seen .room .levels .low) }
+
+  pub still-headed : (after : List ℕ) → length after ≡ length file → 16 ≤ length after
+  still-headed after e = omega (arith, e, seen .ranges .figured .whole)
+
+  module _ (more : bucketsOf file < mostOf file) where
+    pub new-there : {new : ℕ} → new ≡ newborn firstBuckets (header .state) → new < mostOf file
+    new-there en = omega (arith, new-next en)
+
+    pub new-low : {new : ℕ} → new ≡ newborn firstBuckets (header .state) → new ≤ mostBuckets
+    new-low en = omega (arith, new-there en, seen .ranges .figured .few-buckets)
+
+    -- the state that a split leaves is small
+    grown-small : (grown firstBuckets (header .state) .level ≤ mostLevel)
+        × (grown firstBuckets (header .state) .pointer ≤ mostBuckets)
+    unfolding bucketsOf
+    grown-small = rw (seen .state)
+        (state-small (grown firstBuckets (stateOf file)) (mostOf file) (seen .ranges .figured .few-buckets)
+        (grown-formed firstBuckets (omega arith) (stateOf file) (seen .ranges .formed))
+        (omega (arith, grown-buckets firstBuckets (omega arith) (stateOf file) (seen .ranges .formed))))
+
+    module _ {state : Image} (es : state ≡ grown firstBuckets (header .state)) where
+      pub grown-level : state .level < 256
+      grown-level = omega (arith, grown-small, ap (λ (s : Image). s .level) es)
+
+      pub grown-pointer : state .pointer < 65536
+      grown-pointer = omega (arith, grown-small, ap (λ (s : Image). s .pointer) es)
 
 -- the two regions of a split, one before the other, and what is written
 module _ (file : List ℕ) (bytes : Bytes file) (header : Header) (seen : Known file header)
-    (more : bucketsOf file < mostOf file)
-    (sound : bucketSoundIn file (splitting (header .state)) ≡ true) (new : ℕ)
-    (en : new ≡ newborn firstBuckets (header .state))
-    (from to : ℕ) (ef : from ≡ startOf (header .slots) (splitting (header .state)))
-    (et : to ≡ startOf (header .slots) new) where
-  old : ℕ
-  old = splitting (header .state)
-
-  old-in : old < bucketsOf file
-  unfolding old
-  old-in = old-exists file header seen more (splitting (header .state)) new refl en
-
-  new-is : new ≡ bucketsOf file
-  new-is = new-next file header seen more (splitting (header .state)) new refl en
+    (more : bucketsOf file < mostOf file) {old new : ℕ}
+    (eo : old ≡ splitting (header .state)) (en : new ≡ newborn firstBuckets (header .state))
+    (sound : bucketSoundIn file old ≡ true) {from to : ℕ}
+    (ef : from ≡ startOf (header .slots) old) (et : to ≡ startOf (header .slots) new) where
+  number : old ≡ splitting (stateOf file)
+  number = split-number file header seen eo
 
   from-is : from ≡ startOf (slotsOf file) old
-  unfolding old
   from-is = ef ∙ ap (λ (S : ℕ). startOf S old) (seen .slots)
 
   to-is : to ≡ startOf (slotsOf file) new
@@ -109,27 +128,30 @@ module _ (file : List ℕ) (bytes : Bytes file) (header : Header) (seen : Known 
   source = ap₂ (λ (p S : ℕ). part p (slotAt S) file) from-is (seen .slots) ∙ sym (region-is file old)
 
   bucket : Shown file old
-  unfolding old
-  bucket = shown file (seen .ranges) bytes old old-in sound
+  bucket = shown file (seen .ranges) bytes old (old-exists file header seen eo) sound
 
   pub split-halves : Halves file (header .slots) from to (countOf (part from (slotAt (header .slots)) file))
   split-halves = record {
     bytes = bytes;
-    apart = omega
-        (arith, from-is, to-is, seen .slots, region-apart (slotsOf file) old new (omega (arith, old-in, new-is)));
-    fits = omega (arith, to-is, seen .slots, region-fits file (seen .ranges) new (omega (arith, new-is)));
+    apart = omega (
+      arith,
+      from-is,
+      to-is,
+      seen .slots,
+      region-apart (slotsOf file) old new
+          (omega (arith, old-exists file header seen eo, new-next file header seen en)),
+    );
+    fits = omega (
+      arith,
+      to-is,
+      seen .slots,
+      region-fits file (seen .ranges) new (new-there file header seen more en),
+    );
     few = omega (arith, ap countOf source, bucket .parts .few, seen .slots);
     used = rw source (bucket .parts .used);
   }
 
-  pointer : splitting (header .state) ≡ splitting (stateOf file)
-  pointer = ap (λ (s : Image). s .pointer) (seen .state)
-
-  cut : part from (slotAt (header .slots)) file ≡ regionOf file (splitting (stateOf file))
-  unfolding old
-  cut = source ∙ ap (regionOf file) pointer
-
-  -- the old bucket's bytes, and where both are written
+  -- the old bucket's bytes, and where the new ones are written
   staying-bytes : List ℕ
   staying-bytes = encode (slotsOf file) (suc (stateOf file .level))
       (kept (keeps firstBuckets (splitting (stateOf file)) (suc (stateOf file .level)))
@@ -148,39 +170,44 @@ module _ (file : List ℕ) (bytes : Bytes file) (header : Header) (seen : Known 
       test = keeps firstBuckets (splitting (stateOf file)) (suc (stateOf file .level))
 
       there : Shown file (splitting (stateOf file))
-      there = unfold old in (subst (Shown file) pointer bucket)
-
-  from-there : from ≡ startOf (slotsOf file) (splitting (stateOf file))
-  unfolding old
-  from-there = from-is ∙ ap (startOf (slotsOf file)) pointer
+      there = subst (Shown file) number bucket
 
   to-there : to ≡ startOf (slotsOf (withRegion file (splitting (stateOf file)) staying-bytes))
       (newborn firstBuckets (stateOf file))
-  unfolding old
   to-there = to-is ∙ ap₂ startOf
-      (sym (with-slots file (seen .ranges) (splitting (stateOf file)) (omega (arith, old-in, pointer)) staying-bytes
-      staying-long)) (en ∙ ap (newborn firstBuckets) (seen .state))
+      (sym (with-slots file (seen .ranges) (splitting (stateOf file))
+      (omega (arith, old-exists file header seen eo, number)) staying-bytes staying-long))
+      (split-born file header seen en)
 
-  pub split-written : (j : ℕ) (two three : List ℕ) → j ≡ header .state .level + 1
-      → two ≡ halved (keeps firstBuckets (splitting (header .state)) j) (header .slots) j from to file
-      → three ≡ withState two (grown firstBuckets (header .state))
+  pub split-written : {two three : List ℕ} {state : Image}
+      → two ≡ halved (keeps firstBuckets old (header .state .level + 1)) (header .slots) (header .state .level + 1)
+      from to file
+      → state ≡ grown firstBuckets (header .state)
+      → three ≡ withState two state
       → three ≡ divided file
   unfolding divided staying withRegion staying-bytes
-  split-written j two three ej e2 e3 = e3 ∙ ap₂ withState (e2 ∙ written) (ap (grown firstBuckets) (seen .state))
+  split-written e2 es e3 = e3 ∙ ap₂ withState (e2 ∙ written) (es ∙ ap (grown firstBuckets) (seen .state))
     where
-      up : j ≡ suc (stateOf file .level)
-      up = ej ∙ add-one (header .state .level) ∙ ap (λ (s : Image). suc (s .level)) (seen .state)
+      up : header .state .level + 1 ≡ suc (stateOf file .level)
+      up = add-one (header .state .level) ∙ ap (λ (s : Image). suc (s .level)) (seen .state)
 
-      written : halved (keeps firstBuckets (splitting (header .state)) j) (header .slots) j from to file
+      cut : part from (slotAt (header .slots)) file ≡ regionOf file (splitting (stateOf file))
+      cut = source ∙ ap (regionOf file) number
+
+      from-there : from ≡ startOf (slotsOf file) (splitting (stateOf file))
+      from-there = from-is ∙ ap (startOf (slotsOf file)) number
+
+      written : halved (keeps firstBuckets old (header .state .level + 1)) (header .slots) (header .state .level + 1)
+          from to file
           ≡ withRegion (withRegion file (splitting (stateOf file)) staying-bytes) (newborn firstBuckets (stateOf file))
           (encode (slotsOf file) (suc (stateOf file .level))
           (kept (λ key. not (keeps firstBuckets (splitting (stateOf file)) (suc (stateOf file .level)) key))
           (ridesOf (regionOf file (splitting (stateOf file))))))
       written = λ i. edit (to-there i)
           (encode (seen .slots i) (up i)
-          (kept (λ key. not (keeps firstBuckets (pointer i) (up i) key)) (ridesOf (cut i))))
+          (kept (λ key. not (keeps firstBuckets (number i) (up i) key)) (ridesOf (cut i))))
           (edit (from-there i)
-          (encode (seen .slots i) (up i) (kept (keeps firstBuckets (pointer i) (up i)) (ridesOf (cut i)))) file)
+          (encode (seen .slots i) (up i) (kept (keeps firstBuckets (number i) (up i)) (ridesOf (cut i)))) file)
 
 -- split, by its cases
 module _ (file : List ℕ) where
@@ -237,7 +264,8 @@ module _ (file : List ℕ) where
       ∷ []
       ) 0
   unfolding split
-  split-reply = go (headerSound file) (leb (mostOf file) (bucketsOf file)) (bucketSoundIn file (splitting (stateOf file)))
+  split-reply = go (headerSound file) (leb (mostOf file) (bucketsOf file))
+      (bucketSoundIn file (splitting (stateOf file)))
       (allZero (regionOf file (newborn firstBuckets (stateOf file))))
     where
       refused : ℕ → ℕ → SplitOutcome
@@ -302,7 +330,51 @@ module _ (file : List ℕ) where
 pub split-single : (file : List ℕ) (o p : SplitOutcome) → o ≡ split file → p ≡ split file → o ≡ p
 split-single file o p eo ep = eo ∙ sym ep
 
-pub split-refused : (file : List ℕ) (r o n x y : ℕ) → r ≡ x → o ≡ y → n ≡ noBucket
-    → record { answer = x; old = y; new = noBucket; file = file } ≡ split file
-    → record { answer = r; old = o; new = n; file = file } ≡ split file
-split-refused file r o n x y er eo en e = (λ i. record { answer = er i; old = eo i; new = en i; file = file }) ∙ e
+-- ---- the ways of the functions that split
+
+-- an answer with a file is an outcome
+as-outcome : {r o n x y z : ℕ} {file after : List ℕ} → r ≡ x → o ≡ y → n ≡ z → after ≡ file
+    → _≡_ {A = SplitOutcome} (record { answer = r; old = o; new = n; file = after })
+    (record { answer = x; old = y; new = z; file = file })
+as-outcome er eo en ef = λ i. record { answer = er i; old = eo i; new = en i; file = ef i }
+
+module _ (file : List ℕ) {header : Header} where
+  pub split-headless : header ≡ headerOf file → not (header .sound) ≡ true → {r o n : ℕ} → r ≡ 5 → o ≡ noBucket
+      → n ≡ noBucket
+      → record { answer = r; old = o; new = n; file = file } ≡ split file
+  split-headless e h er eo en = as-outcome er eo en refl ∙ split-header file (unknown-failed file header e h)
+
+  module _ (seen : Known file header) where
+    pub split-full : {m : ℕ} → m ≡ buckets firstBuckets (header .state) → header .most ≤ m → {r o n : ℕ} → r ≡ 10
+        → o ≡ noBucket → n ≡ noBucket
+        → record { answer = r; old = o; new = n; file = file } ≡ split file
+    split-full {m} em h er eo en = as-outcome er eo en refl ∙ split-whole file (seen .sound)
+        (omega (arith, buckets-known file header seen m em, seen .most))
+
+    module _ (more : bucketsOf file < mostOf file) {a : ℕ} (ea : a ≡ splitting (header .state)) where
+      pub split-bad : {sound : Bool} → sound ≡ bucketSoundIn file a → not sound ≡ true → {r o n : ℕ} → r ≡ 7 → o ≡ a
+          → n ≡ noBucket
+          → record { answer = r; old = o; new = n; file = file } ≡ split file
+      split-bad {sound} es h er eo en = as-outcome er eo en refl ∙ split-unsound file (seen .sound) more a _
+          (split-number file header seen ea) refl (sym es ∙ not-true sound h)
+
+      module _ (good : bucketSoundIn file a ≡ true) {b : ℕ} (eb : b ≡ newborn firstBuckets (header .state))
+          {clean : Bool} (ec : clean ≡ allZero (regionOf file b)) where
+        pub split-used : not clean ≡ true → {r o n : ℕ} → r ≡ 7 → o ≡ b → n ≡ noBucket
+            → record { answer = r; old = o; new = n; file = file } ≡ split file
+        split-used h er eo en = as-outcome er eo en refl ∙ split-dirty file (seen .sound) more a b
+            (split-number file header seen ea) (split-born file header seen eb) good (sym ec ∙ not-true clean h)
+
+        pub split-made : not clean ≡ false → {after : List ℕ} → after ≡ divided file
+            → record { answer = 0; old = a; new = b; file = after } ≡ split file
+        split-made h e = split-done file (seen .sound) more a b (split-number file header seen ea)
+            (split-born file header seen eb) good (sym ec ∙ not-false clean h) _ e
+
+pub split-room : (file : List ℕ) (header : Header) → Known file header → {m : ℕ}
+    → m ≡ buckets firstBuckets (header .state) → m < header .most
+    → bucketsOf file < mostOf file
+split-room file header seen {m} em h = omega (arith, buckets-known file header seen m em, seen .most)
+
+pub split-sound : (file : List ℕ) (a : ℕ) {sound : Bool} → sound ≡ bucketSoundIn file a → not sound ≡ false
+    → bucketSoundIn file a ≡ true
+split-sound file a {sound} e h = sym e ∙ not-false sound h

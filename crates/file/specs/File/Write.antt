@@ -1,8 +1,8 @@
 -- What a write leaves: a region written is read there, every other region and the header are as they were; a state
 -- written is read there, and every region is as it was.
-use Prim.Native.Nat.{ℕ, zero, suc, _+_, _-_, _≤_, _<_, min}
-use mathlib.Core.Path.{_≡_, refl, sym, ap, ap₂, _∙_}
-use mathlib.Core.Bool.{Bool, true, _&&_}
+use Prim.Native.Nat.{ℕ, zero, suc, _+_, _*_, _-_, _≤_, _<_, min}
+use mathlib.Core.Path.{_≡_, sym, ap, ap₂, _∙_}
+use mathlib.Core.Bool.{true, _&&_}
 use mathlib.Core.List.{List, [], _∷_, _++_, append-nil}
 use mathlib.Core.Logic.{by-cases}
 use native.Mathlib.Decide.{decLt}
@@ -12,7 +12,7 @@ use lib.Dec.{leb, eqb}
 use lib.ListN.{length, getD, take, drop, length-take, length-drop}
 use Rattle.address.specs.Limits.{firstBuckets}
 use Rattle.address.specs.declared.Image.{Image}
-use Rattle.layout.specs.Bytes.{Bytes, leAt, leBytes, marked, allZero, edit, part}
+use Rattle.layout.specs.Bytes.{Bytes, leAt, leBytes, allZero, edit, part}
 use Rattle.layout.specs.Bytes.Apart.{lent}
 use Rattle.layout.specs.Bytes.Edit.{length-edit, edit-before, edit-in, edit-after, part-edit, part-before, part-after}
 use Rattle.layout.specs.Bytes.Edit.{part-at, part-is, same-bytes, edit-bytes, part-bytes}
@@ -24,10 +24,11 @@ use Rattle.bucket.specs.Region.Rides.{AllWhole}
 use Rattle.bucket.specs.Region.Sound.{Parts, bucket-parts, sound-count, sound-whole, sound-encode}
 use Rattle.bucket.specs.Region.Encode.{encode-more}
 use Rattle.file.specs.declared.Header.{Header}
-use Rattle.file.specs.File.{fileMark, capacityOf, mostOf, slotsOf, stateOf, figuresFit, bucketsOf, stateFits}
-use Rattle.file.specs.File.{headerSound, startOf, regionOf, bucketSoundIn, withRegion, withRide, withState}
-use Rattle.file.specs.File.Judge.{Ranges, Known}
-use Rattle.file.specs.File.Region.{region-is, region-fits, region-apart, length-region}
+use Rattle.file.specs.File.{capacityOf, mostOf, slotsOf, stateOf, figuresFit, bucketsOf, stateFits, firstZero}
+use Rattle.file.specs.File.{figuresOf, rangesFit, headerSound, startOf, regionOf, bucketSoundIn, withRegion}
+use Rattle.file.specs.File.{fixedBytes, withRide, withState}
+use Rattle.file.specs.File.Judge.{Ranges, Known, header-parts, header-back}
+use Rattle.file.specs.File.Region.{region-is, region-fits, region-apart, length-region, known-cut, known-long}
 
 -- two files that agree in the first 16 bytes and in length have the same header
 module _ (file other : List ℕ) (long : length other ≡ length file)
@@ -47,32 +48,30 @@ module _ (file other : List ℕ) (long : length other ≡ length file)
 
   pub header-same : headerSound other ≡ headerSound file
   unfolding headerSound
-  header-same = ap₂
-      (λ (n : ℕ) (b : Bool). leb 16 n && b && figuresFit n (capacityOf other) (slotsOf other) (mostOf other)
-      && stateFits (stateOf other) (mostOf other)) long fixed
-      ∙ ap₂
-      (λ (c S : ℕ). leb 16 (length file) && fixed-bytes && figuresFit (length file) c S (mostOf other)
-      && stateFits (stateOf other) (mostOf other)) (same 3 (omega arith)) header-slots
-      ∙ ap₂
-      (λ (M : ℕ) (s : Image). leb 16 (length file) && fixed-bytes
-      && figuresFit (length file) (capacityOf file) (slotsOf file) M && stateFits s M) header-most header-state
+  header-same = λ i. leb 16 (long i) && fixed i && rangesFit (long i) (figures i)
     where
-      fixed-bytes : Bool
-      fixed-bytes = marked file 0 fileMark && allZero (part 9 7 file)
+      wide : (at n : ℕ) (xs : List ℕ) → length (part at n xs) ≡ min n (length xs - at)
+      wide at n xs = ap length (part-is at n xs) ∙ length-take n (drop at xs) ∙ ap (min n) (length-drop at xs)
 
-      seven : (xs : List ℕ) → length (part 9 7 xs) ≡ min 7 (length xs - 9)
-      seven xs = ap length (part-is 9 7 xs) ∙ length-take 7 (drop 9 xs) ∙ ap (min 7) (length-drop 9 xs)
+      behind : (at n : ℕ) → at + n ≤ 16 → part at n other ≡ part at n file
+      behind at n h = same-bytes (part at n other) (part at n file)
+          (wide at n other ∙ ap (λ (l : ℕ). min n (l - at)) long ∙ sym (wide at n file))
+          (λ k l. part-at at n other k (omega (arith, wide at n other))
+          ∙ same (at + k) (omega (arith, wide at n other))
+          ∙ sym (part-at at n file k (omega (arith, wide at n other))))
 
-      behind : part 9 7 other ≡ part 9 7 file
-      behind = same-bytes (part 9 7 other) (part 9 7 file)
-          (seven other ∙ ap (λ (n : ℕ). min 7 (n - 9)) long ∙ sym (seven file))
-          (λ k h. part-at 9 7 other k (omega (arith, seven other)) ∙ same (9 + k) (omega (arith, seven other))
-          ∙ sym (part-at 9 7 file k (omega (arith, seven other))))
-
-      fixed : (marked other 0 fileMark && allZero (part 9 7 other))
-          ≡ (marked file 0 fileMark && allZero (part 9 7 file))
+      fixed : fixedBytes other ≡ fixedBytes file
       fixed = ap₂ _&&_ (ap₂ (λ (x y : ℕ). eqb x 76 && eqb y 70) (same 0 (omega arith)) (same 1 (omega arith)))
-          (ap allZero behind)
+          (ap allZero (behind firstZero (16 - firstZero) (omega arith)))
+
+      figures : figuresOf other ≡ figuresOf file
+      figures = λ i. record {
+        sound = true;
+        state = header-state i;
+        capacity = same 3 (omega arith) i;
+        slots = header-slots i;
+        most = header-most i;
+      }
 
 -- a region, written
 module _ (file : List ℕ) (seen : Ranges file) (a : ℕ) (there : a < mostOf file) (region : List ℕ)
@@ -145,10 +144,11 @@ with-lent file region a at n ea en = lent at n region file en ∙ ap (λ (p : �
 
 -- ---- a state, written
 
-pub state-written : (file : List ℕ) (state : Image)
-    → edit 4 (leBytes 2 (state .pointer)) (edit 2 (state .level ∷ []) file) ≡ withState file state
+pub state-written : (file : List ℕ) (state : Image) {one two : List ℕ} → one ≡ edit 2 (state .level ∷ []) file
+    → two ≡ edit 4 (leBytes 2 (state .pointer)) one
+    → two ≡ withState file state
 unfolding withState
-state-written file state = refl
+state-written file state e f = f ∙ ap (edit 4 (leBytes 2 (state .pointer))) e
 
 -- level and pointer are read back, and nothing else of the file is touched
 module _ (file : List ℕ) (state : Image) (headed : 16 ≤ length file) (low : state .pointer < 65536) where
@@ -222,32 +222,35 @@ module _ (file : List ℕ) (state : Image) (headed : 16 ≤ length file) (low : 
 
   pub state-header : headerSound file ≡ true → stateFits state (mostOf file) ≡ true
       → headerSound (withState file state) ≡ true
-  unfolding headerSound
   state-header h fits =
-      ap₂ (λ (n : ℕ) (b : Bool). leb 16 n && b && figuresFit n (capacityOf written) (slotsOf written) (mostOf written)
-      && stateFits (stateOf written) (mostOf written)) state-length fixed
-      ∙ ap₂
-      (λ (c S : ℕ). before && figuresFit (length file) c S (mostOf written)
-      && stateFits (stateOf written) (mostOf written)) state-three state-slots
-      ∙ ap₂
-      (λ (M : ℕ) (s : Image). before && figuresFit (length file) (capacityOf file) (slotsOf file) M
-      && stateFits s M) state-most state-back-again
-      ∙ and-both (before && figuresFit (length file) (capacityOf file) (slotsOf file) (mostOf file))
-      (stateFits state (mostOf file))
-      (and-left (before && figuresFit (length file) (capacityOf file) (slotsOf file) (mostOf file))
-      (stateFits (stateOf file) (mostOf file)) h) fits
+      let parts = header-parts file h in
+      header-back written (omega (arith, state-length)) (fixed ∙ parts .1)
+      ((λ i. rangesFit (state-length i) (figures i))
+      ∙ and-both (figuresFit (length file) (capacityOf file) (slotsOf file) (mostOf file))
+      (stateFits state (mostOf file)) (and-left _ _ (parts .2)) fits)
     where
       written : List ℕ
       written = withState file state
 
-      before : Bool
-      before = leb 16 (length file) && (marked file 0 fileMark && allZero (part 9 7 file))
-
-      fixed : (marked written 0 fileMark && allZero (part 9 7 written))
-          ≡ (marked file 0 fileMark && allZero (part 9 7 file))
+      fixed : fixedBytes written ≡ fixedBytes file
       fixed = ap₂ _&&_
           (ap₂ (λ (x y : ℕ). eqb x 76 && eqb y 70) (state-before 0 (omega arith)) (state-before 1 (omega arith)))
-          (ap allZero (state-part 9 7 (omega arith) (omega arith)))
+          (ap allZero (state-part firstZero (16 - firstZero) (omega arith) (omega arith)))
+
+      figures : figuresOf written ≡ record {
+        sound = true;
+        state = state;
+        capacity = capacityOf file;
+        slots = slotsOf file;
+        most = mostOf file;
+      }
+      figures = λ i. record {
+        sound = true;
+        state = state-back-again i;
+        capacity = state-three i;
+        slots = state-slots i;
+        most = state-most i;
+      }
 
   pub state-region : Ranges file → (a : ℕ) → a < mostOf file → regionOf (withState file state) a ≡ regionOf file a
   state-region seen a there =
@@ -331,3 +334,18 @@ ride-placed file header seen bytes a exists sound ride whole count counted room 
 
     number : count ≡ length (ridesOf (regionOf file a))
     number = counted ∙ sym (bucket .count)
+
+-- placed in the part that is lent for it
+pub ride-lent : (file : List ℕ) (header : Header) → Known file header → Bytes file → (a : ℕ) → a < bucketsOf file
+    → bucketSoundIn file a ≡ true
+    → (ride : Ride) → Whole ride → (count : ℕ) → count ≡ countOf (regionOf file a) → count < header .slots
+    → {at : ℕ} → at ≡ startOf (header .slots) a → {after : List ℕ}
+    → length after ≡ length (take (at + (8 + 24 * header .slots) - at) (drop at file))
+    → after ≡ edit 4 (leBytes 2 (count + 1))
+    (edit (slotAt count) (slotBytes ride) (take (at + (8 + 24 * header .slots) - at) (drop at file)))
+    → take at file ++ (after ++ drop (at + (8 + 24 * header .slots) - at) (drop at file)) ≡ withRide file a ride
+ride-lent file header seen bytes a exists sound ride whole count counted room {at} ea {after} kept written =
+    with-lent file after a at (at + (8 + 24 * header .slots) - at) (ea ∙ ap (λ (S : ℕ). startOf S a) (seen .slots))
+    (omega (arith, kept, known-long file header seen a at ea (omega (arith, seen .ranges .few))))
+    ∙ ride-placed file header seen bytes a exists sound ride whole count counted room _ after
+    (known-cut file header seen a at ea) written

@@ -1,6 +1,4 @@
 -- `growth::put_state` writes the level and then the pointer.
-use mathlib.Core.Path.{ap, _∙_}
-use Rattle.layout.specs.Bytes.{edit, leBytes}
 use Rattle.file.specs.File.Write.{state-written}
 use borrow.Author.Needs.{needs}
 use Rattle.growth.proofs.put_state.Statement.{statement}
@@ -25,12 +23,7 @@ same-length : tie.Need-same-length
 same-length c = search needs
 
 returns : tie.Need-returns
-returns c =
-    let a = c .before .before .before .before .before .before .before .before .before .before .before .before .args in
-    c .before .before .put2 .ensures
-    ∙ ap (edit 4 (leBytes 2 (a .state .pointer)))
-    (c .before .before .before .before .before .before .before .put .ensures)
-    ∙ state-written (a .file .now) (a .state)
+returns c = search state-written
 
 pub put-state-spec : {M : Type 1} → statement M
 put-state-spec =

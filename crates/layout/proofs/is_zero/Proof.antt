@@ -35,16 +35,10 @@ loop-less : tie.Need-loop-less Inv-loop μ-loop
 loop-less c = search needs
 
 loop-again : tie.Need-loop-again Inv-loop μ-loop
-loop-again c =
-    let a = c .before .before .before .before .before .args in
-    let l = c .before .before .loop in
-    (omega arith, zero-more (a .bytes .now) (l .k) (l .clean) (l .inv .1))
+loop-again c = (omega arith, search zero-more)
 
 returns : tie.Need-returns Inv-loop μ-loop
-returns c =
-    let a = c .before .before .before .before .args in
-    let l = c .before .loop in
-    zero-done (a .bytes .now) (l .k) (l .clean) (l .inv .0) (c .loop-test .left) (l .inv .1)
+returns c = search zero-done
 
 pub is-zero-spec : {M : Type 1} → statement M
 is-zero-spec =

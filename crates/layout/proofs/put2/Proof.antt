@@ -1,9 +1,5 @@
 -- `layout::put2`: what is put is the number's two bytes.
-use Prim.Native.Nat.{ℕ}
-use mathlib.Core.Path.{_∙_, ap, sym}
-use mathlib.Core.List.{List}
-use Rattle.layout.specs.Bytes.{edit}
-use Rattle.layout.specs.Bytes.Numbers.{leBytes-two}
+use Rattle.layout.specs.Bytes.Numbers.{two-put}
 use borrow.Author.Needs.{needs}
 use Rattle.layout.proofs.put2.Statement.{statement}
 use Rattle.layout.proofs.put2.Tie as tie
@@ -24,9 +20,7 @@ same-length : tie.Need-same-length
 same-length c = search needs
 
 returns : tie.Need-returns
-returns c =
-    let a = c .before .before .before .before .before .before .args in
-    c .before .before .put .ensures ∙ ap (λ (ys : List ℕ). edit (a .at) ys (a .bytes .now)) (sym (leBytes-two (a .x)))
+returns c = search two-put
 
 pub put2-spec : {M : Type 1} → statement M
 put2-spec =

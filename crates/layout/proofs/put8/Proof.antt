@@ -1,9 +1,5 @@
 -- `layout::put8`: what is put is the number's eight bytes.
-use Prim.Native.Nat.{ℕ}
-use mathlib.Core.Path.{_∙_, ap, sym}
-use mathlib.Core.List.{List}
-use Rattle.layout.specs.Bytes.{edit}
-use Rattle.layout.specs.Bytes.Numbers.{leBytes-eight}
+use Rattle.layout.specs.Bytes.Numbers.{eight-put}
 use borrow.Author.Needs.{needs}
 use Rattle.layout.proofs.put8.Statement.{statement}
 use Rattle.layout.proofs.put8.Tie as tie
@@ -42,9 +38,7 @@ same-length : tie.Need-same-length
 same-length c = search needs
 
 returns : tie.Need-returns
-returns c =
-    let a = c .before .before .before .before .before .before .args in
-    c .before .before .put .ensures ∙ ap (λ (ys : List ℕ). edit (a .at) ys (a .bytes .now)) (sym (leBytes-eight (a .x)))
+returns c = search eight-put
 
 pub put8-spec : {M : Type 1} → statement M
 put8-spec =

@@ -1,6 +1,6 @@
 -- `layout::read2`: the sum of the two bytes is the number.
 use native.Mathlib.Omega.{arith}
-use Rattle.layout.specs.Bytes.Numbers.{le-two}
+use Rattle.layout.specs.Bytes.Numbers.{two-read}
 use borrow.Author.Needs.{needs}
 use Rattle.layout.proofs.read2.Statement.{statement}
 use Rattle.layout.proofs.read2.Tie as tie
@@ -27,9 +27,7 @@ add-result : tie.Need-add-result
 add-result c = search needs
 
 returns : tie.Need-returns
-returns c =
-    let a = c .before .before .before .before .before .args in
-    omega (arith, le-two (a .bytes .now) (a .at))
+returns c = (search two-read, omega arith)
 
 pub read2-spec : {M : Type 1} → statement M
 read2-spec =

@@ -1,6 +1,5 @@
 -- `layout::read8`: the sum of the eight bytes is the number.
-use native.Mathlib.Omega.{arith}
-use Rattle.layout.specs.Bytes.Numbers.{le-eight}
+use Rattle.layout.specs.Bytes.Numbers.{eight-read}
 use borrow.Author.Needs.{needs}
 use Rattle.layout.proofs.read8.Statement.{statement}
 use Rattle.layout.proofs.read8.Tie as tie
@@ -117,9 +116,7 @@ add-result-7 : tie.Need-add-result-7
 add-result-7 c = search needs
 
 returns : tie.Need-returns
-returns c =
-    let a = c .before .before .before .before .before .before .before .before .before .before .before .before .before .before .before .before .before .args in
-    omega (arith, le-eight (a .bytes .now) (a .at))
+returns c = search eight-read
 
 pub read8-spec : {M : Type 1} → statement M
 read8-spec =

@@ -9,11 +9,13 @@ use native.Mathlib.Nat.{add-zero, zero-add, add-suc, suc-add, add-assoc, pow-suc
 use native.Mathlib.Numerals.{add-one, add-two, add-three, add-four, add-five, add-six, add-seven}
 use native.Mathlib.Omega.{arith}
 use borrow.Author.Tests.{eq-eqb, ne-eqb}
+use mir.Syntax.{w8}
+use mir.Val.{Fits}
 use lib.Bits.{bitOr, or-zero-l, or-add-and, and-le-r}
 use lib.Dec.{eqb}
 use lib.ListN.{length, getD, drop}
 use lib.Seq.{drop-cons, getD-drop, getD-append-add}
-use Rattle.layout.specs.Bytes.{Bytes, leAt, leBytes, allBelow, part}
+use Rattle.layout.specs.Bytes.{Bytes, leAt, leBytes, marked, allBelow, edit, part}
 use Rattle.layout.specs.Bytes.Edit.{part-at}
 
 pub length-leBytes : (n x : ℕ) → length (leBytes n x) ≡ n
@@ -87,6 +89,18 @@ unfolding leAt
 le-eight xs at = rw (add-one at, add-two at, add-three at, add-four at, add-five at, add-six at, add-seven at)
     (omega arith)
 
+-- and what the code reads of them
+pub two-read : (xs : List ℕ) (at : ℕ) {a b : ℕ} → a ≡ getD xs at 0 → b ≡ getD xs (at + 1) 0 → a + b * 256 ≡ leAt 2 xs at
+two-read xs at p q = omega (arith, le-two xs at)
+
+pub eight-read : (xs : List ℕ) (at : ℕ) {a b c d e f g h : ℕ} → a ≡ getD xs at 0 → b ≡ getD xs (at + 1) 0
+    → c ≡ getD xs (at + 2) 0 → d ≡ getD xs (at + 3) 0 → e ≡ getD xs (at + 4) 0 → f ≡ getD xs (at + 5) 0
+    → g ≡ getD xs (at + 6) 0 → h ≡ getD xs (at + 7) 0
+    → a + b * 256 + c * 65536 + d * 16777216 + e * 4294967296 + f * 1099511627776 + g * 281474976710656
+    + h * 72057594037927936
+    ≡ leAt 8 xs at
+eight-read xs at p q r s t u v w = omega (arith, le-eight xs at)
+
 -- the bytes that one store writes
 pub leBytes-two : (x : ℕ) → leBytes 2 x ≡ x % 256 ∷ x / 256 % 256 ∷ []
 unfolding leBytes
@@ -99,6 +113,19 @@ pub leBytes-eight : (x : ℕ)
     ∷ x / 256 / 256 / 256 / 256 / 256 / 256 / 256 % 256 ∷ []
 unfolding leBytes
 leBytes-eight x = refl
+
+-- and what the code writes of them
+pub two-put : (at x : ℕ) (xs : List ℕ) {exit : List ℕ} → exit ≡ edit at (x % 256 ∷ x / 256 % 256 ∷ []) xs
+    → exit ≡ edit at (leBytes 2 x) xs
+two-put at x xs e = e ∙ ap (λ (ys : List ℕ). edit at ys xs) (sym (leBytes-two x))
+
+pub eight-put : (at x : ℕ) (xs : List ℕ) {exit : List ℕ}
+    → exit ≡ edit at
+    (x % 256 ∷ x / 256 % 256 ∷ x / 256 / 256 % 256 ∷ x / 256 / 256 / 256 % 256 ∷ x / 256 / 256 / 256 / 256 % 256
+    ∷ x / 256 / 256 / 256 / 256 / 256 % 256 ∷ x / 256 / 256 / 256 / 256 / 256 / 256 % 256
+    ∷ x / 256 / 256 / 256 / 256 / 256 / 256 / 256 % 256 ∷ []) xs
+    → exit ≡ edit at (leBytes 8 x) xs
+eight-put at x xs e = e ∙ ap (λ (ys : List ℕ). edit at ys xs) (sym (leBytes-eight x))
 
 -- a number behind a place, and one that stands behind a list
 pub le-drop : (n : ℕ) (xs : List ℕ) (s at : ℕ) → leAt n (drop s xs) at ≡ leAt n xs (s + at)
@@ -123,6 +150,13 @@ two-same x y p q low high = by-cases (ℕ-discrete x p)
     (λ f. rw (eq-eqb (x + y * 256) (p + q * 256) (omega (arith, e, f)), eq-eqb x p e, eq-eqb y q f))
     (λ f. rw (ne-eqb (x + y * 256) (p + q * 256) (omega (arith, e, f)), eq-eqb x p e, ne-eqb y q f)))
     (λ e. rw (ne-eqb (x + y * 256) (p + q * 256) (omega (arith, e)), ne-eqb x p e))
+
+pub mark-read : (xs mark : List ℕ) (at : ℕ) {number first second : ℕ} → number ≡ leAt 2 xs at
+    → first ≡ getD mark 0 0 → first < 256 → second ≡ getD mark 1 0 → ((k : ℕ) → Fits w8 (getD xs k 0))
+    → eqb number (first + second * 256) ≡ marked xs at mark
+mark-read xs mark at {number} {first} {second} e p small q known =
+    ap₂ eqb (e ∙ sym (le-two xs at)) (ap₂ (λ (x y : ℕ). x + y * 256) p q)
+    ∙ two-same (getD xs at 0) (getD xs (at + 1) 0) (getD mark 0 0) (getD mark 1 0) (known at .fits) (omega arith)
 
 -- ---- zeros, eight bytes at a time
 

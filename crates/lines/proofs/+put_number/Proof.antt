@@ -5,8 +5,8 @@ use native.Mathlib.Omega.{arith}
 use borrow.Author.Needs.{needs}
 use borrow.Fn.Kinds.{In}
 use borrow.Fn.PlainCycle.{Measures, is, falls, and}
-use Rattle.lines.specs.Lines.Decimal.{decimal-one, decimal-more, decimal-some, decimal-tail}
-use Rattle.lines.specs.Lines.Edit.{wrote-both}
+use Rattle.lines.specs.Lines.Decimal.{decimal-tail}
+use Rattle.lines.specs.Lines.Written.{digit-room, digit-wrote, last-room, number-wrote}
 use Rattle.lines.proofs.put_number.Reads as put-number
 use Rattle.lines.proofs.put_number.Kinds as put-number-kinds
 use Rattle.lines.proofs.+put_number.Lts-put_number as put-number-lts
@@ -35,14 +35,13 @@ module _ (t : ℕ) where
   cast-put-byte c = omega arith
 
   put-byte-requires : put-number-lts.Need-put-byte-requires told given put-number.Post
-  put-byte-requires c κs = omega (arith, decimal-some (c .before .before .before .args .x))
+  put-byte-requires c κs = search digit-room
 
   same-length : put-number-lts.Need-same-length told given put-number.Post
   same-length c = search needs
 
   returns : put-number-lts.Need-returns told given put-number.Post
-  returns c = rw (decimal-one (c .before .before .before .before .before .before .args .x) (omega arith))
-      (c .before .before .put-byte .ensures)
+  returns c = search digit-wrote
 
   put-number-requires : put-number-lts.Need-put-number-requires told given put-number.Post
   put-number-requires c κs = omega (arith, decimal-tail (c .before .before .before .args .x) (omega arith))
@@ -54,18 +53,13 @@ module _ (t : ℕ) where
   cast-put-byte-2 c = omega arith
 
   put-byte-requires-2 : put-number-lts.Need-put-byte-requires-2 told given put-number.Post
-  put-byte-requires-2 c κs = omega
-      (arith, decimal-tail (c .before .before .before .before .before .before .before .args .x) (omega arith))
+  put-byte-requires-2 c κs = search last-room
 
   same-length-2 : put-number-lts.Need-same-length-2 told given put-number.Post
   same-length-2 c = search needs
 
   returns-2 : put-number-lts.Need-returns-2 told given put-number.Post
-  returns-2 c = rw
-      (decimal-more (c .before .before .before .before .before .before .before .before .before .before .args .x)
-      (omega arith))
-      (wrote-both (c .before .before .before .before .before .before .put-number .ensures)
-      (c .before .before .put-byte2 .ensures))
+  returns-2 c = search number-wrote
 
 pub +put-number-spec : {M : Type 1} → statement M
 +put-number-spec = close μ-put-number (λ t. put-number-lts.spec (told t) (given t) put-number.Post

@@ -1,35 +1,17 @@
--- `ride::insert` refuses in the replies' order, walks the route, and finishes at the key's own bucket.
-use mathlib.Core.Path.{sym, ap, subst, _∙_}
-use mathlib.Core.Bool.{Bool, true, false}
-use borrow.Author.Tests.{not-true, not-false, eqb-true}
-use lib.Dec.{eqb}
-use lib.ListN.{length}
-use Rattle.layout.specs.Bytes.Tests.{and-left, and-right}
-use Rattle.address.specs.declared.Image.{Image}
-use Rattle.bucket.specs.Region.{every}
-use Rattle.file.specs.File.{bucketSoundIn}
-use Rattle.route.specs.Way.{noted, wayOf, cut}
-use Rattle.route.specs.Way.Route.{Walked}
-use Rattle.ride.specs.Call.{placed}
-use Rattle.ride.specs.Call.Replied.{insert-is, routed-block, routed-early, routed-stopped, routed-reached}
+-- `ride::insert` refuses lengths that do not fit, passes on a refusal on its way, or finishes at the key's bucket.
+use Rattle.ride.specs.Call.Replied.{insert-unfit, insert-refused, insert-reached, fits-answer, fits-payload}
 use borrow.Author.Needs.{needs}
 use Rattle.ride.proofs.insert.Statement.{statement}
 use Rattle.ride.proofs.insert.Tie as tie
 
 returns : tie.Need-returns
-returns c =
-    let a = c .before .before .before .before .before .args in
-    routed-block (a .file .now) (a .table .now) (a .client) (a .key) (a .answer .now)
-    (placed (a .file .now) (a .table .now) (a .client) (a .key) (a .payload .now))
-    ∙ insert-is (a .file .now) (a .table .now) (a .client) (a .key) (a .payload .now) (a .answer .now) false
-    (not-true _ (c .if1 .taken))
+returns c = search insert-unfit
 
-open-requires : tie.Need-open-requires
-open-requires c κs = search needs
+reach-requires : tie.Need-reach-requires
+reach-requires c κs = search needs
 
-put-refusal-requires : tie.Need-put-refusal-requires
-put-refusal-requires c κs = eqb-true _ 24
-    (and-left _ _ (not-false _ (c .before .before .before .before .before .if1 .left)))
+put-block-requires : tie.Need-put-block-requires
+put-block-requires c κs = (search fits-answer, search needs)
 
 same-length : tie.Need-same-length
 same-length c = search needs
@@ -41,35 +23,12 @@ same-length-3 : tie.Need-same-length-3
 same-length-3 c = search needs
 
 returns-2 : tie.Need-returns-2
-returns-2 c =
-    let a =
-    c .before .before .before .before .before .before .before .before .before .before .before .before .before .args
-    in
-    let o = c .before .before .before .before .before .«open» in
-    (λ i.
-    record {
-      answer = o .result .reply;
-      block = c .before .before .put-refusal .ensures i;
-      table = a .table .now;
-      file = a .file .now;
-    })
-    ∙ routed-early (a .file .now) (a .table .now) (a .client) (a .key) (a .answer .now)
-    (placed (a .file .now) (a .table .now) (a .client) (a .key) (a .payload .now)) (o .result .reply)
-    (o .ensures .0) (c .before .before .before .before .if2 .taken)
-    ∙ insert-is (a .file .now) (a .table .now) (a .client) (a .key) (a .payload .now) (a .answer .now) true
-    (not-false _ (c .before .before .before .before .before .before .before .before .if1 .left))
+returns-2 c = search insert-refused
 
-walk-route-requires : tie.Need-walk-route-requires
-walk-route-requires c κs =
-    let g = c .before .before .«open» .ensures .1 (c .before .if2 .left) in
-    (g .known, g .low, g .formed, g .behind)
-
-put-block-requires : tie.Need-put-block-requires
-put-block-requires c κs = (
-  eqb-true _ 24
-      (and-left _ _ (not-false _ (c .before .before .before .before .before .before .before .before .before .if1 .left))),
-  c .before .before .before .walk-route .ensures .0 .few,
-)
+finish-insert-requires : tie.Need-finish-insert-requires
+finish-insert-requires c κs =
+    let z = c .before .before .before in
+    (search fits-answer, search fits-payload, z .before .reach .ensures .own (z .if2 .left))
 
 same-length-4 : tie.Need-same-length-4
 same-length-4 c = search needs
@@ -81,93 +40,21 @@ same-length-6 : tie.Need-same-length-6
 same-length-6 c = search needs
 
 returns-3 : tie.Need-returns-3
-returns-3 c =
-    let a = c .before .before .before .before .before .before .before .before .before .before .before .before .before .before .before .before .before .args in
-    let o = c .before .before .before .before .before .before .before .before .before .«open» in
-    let g = o .ensures .1 (c .before .before .before .before .before .before .before .before .if2 .left) in
-    let w = c .before .before .before .before .before .before .walk-route in
-    (λ i.
-    record {
-      answer = 7;
-      block = c .before .before .put-block .ensures i;
-      table = a .table .now;
-      file =
-          a .file .now;
-    })
-    ∙ routed-stopped (a .file .now) (a .table .now) (a .client) (a .key) (a .answer .now)
-    (placed (a .file .now) (a .table .now) (a .client) (a .key) (a .payload .now))
-    (sym (o .ensures .0) ∙ c .before .before .before .before .before .before .before .before .if2 .left)
-    (noted (w .result .walk))
-    (w .ensures .0 .met ∙ ap (λ (x : Image). cut (bucketSoundIn (a .file .now)) (wayOf (a .file .now) x (a .key)))
-    (g .is))
-    (sym (c .before .before .before .before .before .before .walk-route .ensures .0 .sound
-    ∙ ap (λ (x : Image). every (bucketSoundIn (a .file .now)) (wayOf (a .file .now) x (a .key))) (g .is))
-    ∙ not-true _ (c .before .before .before .before .if3 .taken))
-    ∙ insert-is (a .file .now) (a .table .now) (a .client) (a .key) (a .payload .now) (a .answer .now) true
-    (not-false _
-    (c .before .before .before .before .before .before .before .before .before .before .before .before .if1 .left))
-
-finish-insert-requires : tie.Need-finish-insert-requires
-finish-insert-requires c κs =
-    let a = c .before .before .before .before .before .before .before .before .before .before .before .before .before .before .before .before .args in
-    let o = c .before .before .before .before .before .before .before .before .«open» in
-    let g = o .ensures .1 (c .before .before .before .before .before .before .before .if2 .left) in
-    let w = c .before .before .before .before .before .walk-route in (
-      eqb-true _ 24
-          (and-left _ _
-          (not-false _
-          (c .before .before .before .before .before .before .before .before .before .before .before .if1 .left))),
-      record {
-        opened = g;
-        ended = subst
-            (λ (s : Bool). Walked (a .file .now) (a .key) (wayOf (a .file .now) (o .result .image) (a .key))
-            (w .result .walk) (w .result .bucket) s) (not-false _ (c .before .before .before .if3 .left))
-            (w .ensures .0);
-        slot = w .ensures .1 (not-false _ (c .before .before .before .if3 .left));
-      },
-      eqb-true _ 14
-          (and-right (eqb (length (a .answer .now)) 24) _
-          (not-false _
-          (c .before .before .before .before .before .before .before .before .before .before .before .if1 .left))),
-    )
-
-same-length-7 : tie.Need-same-length-7
-same-length-7 c = search needs
-
-same-length-8 : tie.Need-same-length-8
-same-length-8 c = search needs
-
-same-length-9 : tie.Need-same-length-9
-same-length-9 c = search needs
-
-returns-4 : tie.Need-returns-4
-returns-4 c =
-    let a = c .before .before .before .before .before .before .before .before .before .before .before .before .before .before .before .before .before .before .before .before .before .before .before .args in
-    let o = c .before .before .before .before .before .before .before .before .before .before .before .before .before .before .before .«open» in
-    let g = o .ensures .1 (c .before .before .before .before .before .before .before .before .before .before .before .before .before .before .if2 .left) in
-    c .before .before .before .before .before .before .finish-insert .ensures
-    ∙ routed-reached (a .file .now) (a .table .now) (a .client) (a .key) (a .answer .now) (placed (a .file .now) (a .table .now) (a .client) (a .key) (a .payload .now)) (sym (o .ensures .0) ∙ c .before .before .before .before .before .before .before .before .before .before .before .before .before .before .if2 .left) (sym (c .before .before .before .before .before .before .before .before .before .before .before .before .walk-route .ensures .0 .sound ∙ ap (λ (x : Image). every (bucketSoundIn (a .file .now)) (wayOf (a .file .now) x (a .key))) (g .is)) ∙ not-false _ (c .before .before .before .before .before .before .before .before .before .before .if3 .left))
-    ∙ insert-is (a .file .now) (a .table .now) (a .client) (a .key) (a .payload .now) (a .answer .now) true (not-false _ (c .before .before .before .before .before .before .before .before .before .before .before .before .before .before .before .before .before .before .if1 .left))
+returns-3 c = search insert-reached
 
 pub insert-spec : {M : Type 1} → statement M
 insert-spec =
     tie.close
     (tie.spec
     returns
-    open-requires
-    put-refusal-requires
+    reach-requires
+    put-block-requires
     same-length
     same-length-2
     same-length-3
     returns-2
-    walk-route-requires
-    put-block-requires
+    finish-insert-requires
     same-length-4
     same-length-5
     same-length-6
-    returns-3
-    finish-insert-requires
-    same-length-7
-    same-length-8
-    same-length-9
-    returns-4)
+    returns-3)

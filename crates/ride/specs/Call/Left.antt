@@ -9,15 +9,15 @@ use native.Mathlib.Omega.{arith}
 use borrow.Author.Tests.{eqb-true, eqb-false}
 use lib.Dec.{eqb}
 use lib.ListN.{length}
-use Rattle.layout.specs.Replies.{Refusal, refuse, reply, reply-is, reply-none, reply-here, reply-past, reply-append}
+use Rattle.layout.specs.Replies.{Refusal, refuse, reply, reply-is, reply-none, reply-here, reply-past}
 use Rattle.bucket.specs.Region.{rideAt, slotOf, every}
 use Rattle.client.specs.Table.{imageOf}
 use Rattle.file.specs.File.{bucketSoundIn, regionOf}
 use Rattle.answer.specs.Answer.{block, noPayload}
-use Rattle.route.specs.Way.{early, cut, wayOf, ownOf, held, full}
-use Rattle.route.specs.Way.Open.{early-else, early-range}
+use Rattle.route.specs.Way.{early, onWay, metOn, wayOf, ownOf, held, full}
+use Rattle.route.specs.Way.Reach.{way-before, way-range, way-passes, way-passed}
 use Rattle.ride.specs.Call.{Outcome, adjustedTable, routed, searched, search, overfull, inserted, placed, insert}
-use Rattle.ride.specs.Call.Replied.{search-found, search-absent, insert-held, insert-full, insert-done}
+use Rattle.ride.specs.Call.Replied.{searched-held, searched-absent, placed-held, placed-full, placed-done}
 
 -- a call that reaches the key's own bucket has passed 14, 2 to 6 and 7
 pub record Through (fits : Bool) (file table : List ℕ) (client key : ℕ) : Type 0 where
@@ -36,68 +36,47 @@ pub record Refused (fits : Bool) (file table : List ℕ) (client key : ℕ) (ans
 
 module _ (fits : Bool) (file table : List ℕ) (client key : ℕ) (answer : List ℕ) (reached : Outcome) where
   r : ℕ
-  r = reply (early file table client) 0
+  r = reply (onWay file table client key) 0
 
-  way : List ℕ
-  way = wayOf file (imageOf table client) key
+  left : Bool → Bool → Outcome
+  left x y = cond (not x) (record { answer = 14; block = answer; table = table; file = file })
+      (cond y reached
+      (record { answer = r; block = block r (metOn file table client key) 0 noPayload; table = table; file = file }))
 
-  left : Bool → Bool → Bool → Outcome
-  left x y z = cond (not x) (record { answer = 14; block = answer; table = table; file = file })
-      (cond (not y) (record { answer = r; block = block r [] 0 noPayload; table = table; file = file })
-      (cond (not z)
-      (record {
-        answer = 7;
-        block = block 7 (cut (bucketSoundIn file) way) 0 noPayload;
-        table = table;
-        file =
-            file;
-      }) reached))
-
-  left-is : left fits (eqb r 0) (every (bucketSoundIn file) way) ≡ routed fits file table client key answer reached
-  unfolding left r way routed
+  left-is : left fits (eqb r 0) ≡ routed fits file table client key answer reached
+  unfolding left r routed
   left-is = refl
 
   pub routed-ways : Refused fits file table client key answer (routed fits file table client key answer reached)
       ⊎ (Through fits file table client key × (reached ≡ routed fits file table client key answer reached))
-  unfolding left r way routed
-  routed-ways = go fits refl (eqb r 0) refl (every (bucketSoundIn file) way) refl
+  unfolding left r routed
+  routed-ways = go fits refl (eqb r 0) refl
     where
-      go : (x : Bool) → fits ≡ x → (y : Bool) → eqb r 0 ≡ y → (z : Bool) → every (bucketSoundIn file) way ≡ z
-          → Refused fits file table client key answer (left x y z)
-          ⊎ (Through fits file table client key × (reached ≡ left x y z))
-      go false ex y ey z ez = inl
+      go : (x : Bool) → fits ≡ x → (y : Bool) → eqb r 0 ≡ y
+          → Refused fits file table client key answer (left x y)
+          ⊎ (Through fits file table client key × (reached ≡ left x y))
+      go false ex y ey = inl
           (record {
             why = λ t. true≢false (sym (t .fit) ∙ ex);
             some = omega arith;
-            before =
-                (λ e. omega (arith, e), λ e. omega (arith, e));
+            before = (λ e. omega (arith, e), λ e. omega (arith, e));
             table-left = refl;
             file-left = refl;
             block-left = λ e. refl;
           })
-      go true ex false ey z ez =
-          let range = early-range file table client (eqb-false r 0 ey) in
+      go true ex false ey =
+          let range = way-range file table client key (eqb-false r 0 ey) in
           inl (record {
-            why = λ t. eqb-false r 0 ey (t .none);
+            why = λ t. eqb-false r 0 ey (way-passed file table client key (t .none) (t .sound));
             some = range .0;
-            before =
-                (λ e. omega (arith, e, range .1), λ e. omega (arith, e, range .1));
+            before = (λ e. omega (arith, e, range .1), λ e. omega (arith, e, range .1));
             table-left = refl;
             file-left = refl;
             block-left = λ e. absurd (omega (arith, e, range .1));
           })
-      go true ex true ey false ez = inl
-          (record {
-            why = λ t. true≢false (sym (t .sound) ∙ ez);
-            some = omega arith;
-            before =
-                (λ e. omega (arith, e), λ e. omega (arith, e));
-            table-left = refl;
-            file-left = refl;
-            block-left = λ e. absurd
-                (omega (arith, e));
-          })
-      go true ex true ey true ez = inr (record { fit = ex; none = eqb-true r 0 ey; sound = ez }, refl)
+      go true ex true ey =
+          let passed = way-passes file table client key (eqb-true r 0 ey) in
+          inr (record { fit = ex; none = passed .0; sound = passed .1 }, refl)
 
   -- 14, 2 to 6, 7, then the reply at the key's own bucket
   pub routed-reply : (rest : List Refusal) → reached .answer ≡ reply rest 0
@@ -106,25 +85,14 @@ module _ (fits : Bool) (file table : List ℕ) (client key : ℕ) (answer : List
       (refuse 14 (not fits)
       ∷ (early file table client
       ++ (refuse 7 (not (every (bucketSoundIn file) (wayOf file (imageOf table client) key))) ∷ rest))) 0
-  unfolding left r way
-  routed-reply rest e = sym (ap (λ (o : Outcome). o .answer) left-is)
-      ∙ go fits (eqb r 0) (every (bucketSoundIn file) way) ∙ sym listed
+  unfolding left r
+  routed-reply rest e = sym (ap (λ (o : Outcome). o .answer) left-is) ∙ go fits (eqb r 0)
+      ∙ sym (reply-is 14 (not fits) _ 0 ∙ ap (cond (not fits) 14) (way-before file table client key rest))
     where
-      go : (x y z : Bool) → left x y z .answer ≡ cond (not x) 14 (cond y (cond (not z) 7 (reached .answer)) r)
-      go false y z = refl
-      go true false z = refl
-      go true true false = refl
-      go true true true = refl
-
-      listed : reply
-          (refuse 14 (not fits)
-          ∷ (early file table client ++ (refuse 7 (not (every (bucketSoundIn file) way)) ∷ rest))) 0
-          ≡ cond (not fits) 14 (cond (eqb r 0) (cond (not (every (bucketSoundIn file) way)) 7 (reached .answer)) r)
-      listed = reply-is 14 (not fits) _ 0
-          ∙ ap (λ (n : ℕ). cond (not fits) 14 n)
-          (reply-append (early file table client) _ 0 ∙ early-else file table client _
-          ∙ ap (λ (n : ℕ). cond (eqb r 0) n r)
-          (reply-is 7 _ rest 0 ∙ ap (λ (n : ℕ). cond (not (every (bucketSoundIn file) way)) 7 n) (sym e)))
+      go : (x y : Bool) → left x y .answer ≡ cond (not x) 14 (cond y (reply rest 0) r)
+      go false y = refl
+      go true false = refl
+      go true true = e
 
 -- at the key's own bucket: a search finds the key or not, an insert is refused by 8, by 9, or done
 module _ (file table : List ℕ) (client key : ℕ) where
@@ -148,8 +116,8 @@ module _ (file table : List ℕ) (client key : ℕ) where
   searched-ways P found absent = go (held file key) refl
     where
       go : (b : Bool) → held file key ≡ b → P (searched file table client key)
-      go true e = subst P (search-found file table client key _ _ _ refl refl e _ refl refl) (found e)
-      go false e = subst P (search-absent file table client key _ _ _ refl refl e refl) (absent e)
+      go true e = subst P (searched-held file table client key e) (found e)
+      go false e = subst P (searched-absent file table client key e) (absent e)
 
   placed-ways : (payload : List ℕ) (P : Outcome → Type 0)
       → (held file key ≡ true → P
@@ -178,10 +146,9 @@ module _ (file table : List ℕ) (client key : ℕ) where
   placed-ways payload P there whole done = go (held file key) refl (full file key) refl
     where
       go : (x : Bool) → held file key ≡ x → (y : Bool) → full file key ≡ y → P (placed file table client key payload)
-      go true eh y ef = subst P (insert-held file table client key _ _ _ refl refl payload eh refl) (there eh)
-      go false eh true ef = subst P (insert-full file table client key _ _ _ refl refl payload eh ef refl) (whole eh ef)
-      go false eh false ef = subst P
-          (insert-done file table client key _ _ _ refl refl payload eh ef _ refl refl _ refl) (done eh ef)
+      go true eh y ef = subst P (placed-held file table client key payload eh) (there eh)
+      go false eh true ef = subst P (placed-full file table client key payload eh ef) (whole eh ef)
+      go false eh false ef = subst P (placed-done file table client key payload eh ef) (done eh ef)
 
 -- so what holds of every way out holds of the call
 pub search-ways : (file table : List ℕ) (client key : ℕ) (answer : List ℕ) (P : Outcome → Type 0)

@@ -1,19 +1,27 @@
 -- The outcome of a key call by its cases, in the replies' order; and no second outcome fits.
 use Prim.Native.Nat.{ℕ, _+_}
 use mathlib.Core.Path.{_≡_, refl, sym, ap, ap₂, _∙_}
-use mathlib.Core.Bool.{Bool, true, false, cond, _&&_}
-use mathlib.Core.List.{List, []}
+use mathlib.Core.Bool.{Bool, true, false, cond, not, _&&_}
+use mathlib.Core.List.{List}
 use native.Mathlib.Omega.{arith}
-use borrow.Author.Tests.{eq-eqb, ne-eqb}
-use lib.Dec.{ltb, eqb}
+use borrow.Author.Tests.{eq-eqb, ne-eqb, eqb-true, not-true, not-false}
+use lib.Dec.{leb, ltb, eqb}
 use lib.ListN.{length}
+use Rattle.address.specs.declared.Image.{Image}
+use Rattle.layout.specs.Bytes.Tests.{and-left, and-right}
 use Rattle.layout.specs.Replies.{reply}
-use Rattle.bucket.specs.Region.{countOf, rideAt, slotOf, every}
-use Rattle.client.specs.Table.{imageOf}
-use Rattle.file.specs.File.{capacityOf, regionOf, bucketSoundIn, withRide}
+use Rattle.bucket.specs.Region.{countOf, rideAt, slotOf}
+use Rattle.client.specs.Table.{imageOf, withImage}
+use Rattle.file.specs.File.{capacityOf, regionOf, withRide}
+use Rattle.file.specs.declared.Header.{Header}
 use Rattle.answer.specs.Answer.{block, noPayload}
-use Rattle.route.specs.Way.{early, cut, wayOf, ownOf, held, full}
+use Rattle.route.specs.declared.Walk.{Walk}
+use Rattle.route.specs.Way.{onWay, wayOf, ownOf, held, full, noted}
+use Rattle.route.specs.Way.Own.{held-is, full-is}
+use Rattle.route.specs.Way.Reach.{AtOwn, Reaching}
 use Rattle.ride.specs.Call.{Outcome, adjustedTable, routed, searched, search, placed, insert, inserted, overfull}
+
+-- ---- up to the key's own bucket
 
 module _ (file table : List ℕ) (client key : ℕ) (answer : List ℕ) (reached : Outcome) where
   pub routed-block : record { answer = 14; block = answer; table = table; file = file }
@@ -21,49 +29,89 @@ module _ (file table : List ℕ) (client key : ℕ) (answer : List ℕ) (reached
   unfolding routed
   routed-block = refl
 
-  pub routed-early : (r : ℕ) → r ≡ reply (early file table client) 0 → (r ≡ 0 → ⊥)
-      → record { answer = r; block = block r [] 0 noPayload; table = table; file = file }
-      ≡ routed true file table client key answer reached
-  unfolding routed
-  routed-early r e some = rw (ne-eqb (reply (early file table client) 0) 0 (λ z. some (e ∙ z)))
-      (λ i. record { answer = e i; block = block (e i) [] 0 noPayload; table = table; file = file })
-
-  module _ (none : reply (early file table client) 0 ≡ 0) where
-    pub routed-stopped : (way : List ℕ) → way ≡ cut (bucketSoundIn file) (wayOf file (imageOf table client) key)
-        → every (bucketSoundIn file) (wayOf file (imageOf table client) key) ≡ false
-        → record { answer = 7; block = block 7 way 0 noPayload; table = table; file = file }
+  module _ {header : Header} {next : Image} {walk : Walk} {a place r : ℕ}
+      (way : Reaching file table client key header next walk a place r) where
+    pub routed-refused : (r ≡ 0 → ⊥) → {left : List ℕ} → left ≡ block r (noted walk) 0 noPayload
+        → record { answer = r; block = left; table = table; file = file }
         ≡ routed true file table client key answer reached
     unfolding routed
-    routed-stopped way ew bad = rw (eq-eqb (reply (early file table client) 0) 0 none, bad)
-        (λ i. record { answer = 7; block = block 7 (ew i) 0 noPayload; table = table; file = file })
+    routed-refused some el = rw (ne-eqb (reply (onWay file table client key) 0) 0 (λ e. some (way .is ∙ e)))
+        (λ i.
+        record {
+          answer = way .is i;
+          block = (el ∙ ap₂ (λ (n : ℕ) (l : List ℕ). block n l 0 noPayload) (way .is) (way .met)) i;
+          table = table;
+          file = file;
+        })
 
-    pub routed-reached : every (bucketSoundIn file) (wayOf file (imageOf table client) key) ≡ true
-        → reached ≡ routed true file table client key answer reached
+    pub routed-reached : r ≡ 0 → {o : Outcome} → o ≡ reached → o ≡ routed true file table client key answer reached
     unfolding routed
-    routed-reached good = rw (eq-eqb (reply (early file table client) 0) 0 none, good)
+    routed-reached none eo = rw (eq-eqb (reply (onWay file table client key) 0) 0 (sym (way .is) ∙ none)) eo
 
 -- whose outcome it is
-pub search-is : (file table : List ℕ) (client key : ℕ) (answer : List ℕ) (fits : Bool) → eqb (length answer) 24 ≡ fits
-    → routed fits file table client key answer (searched file table client key) ≡ search file table client key answer
-unfolding search
-search-is file table client key answer fits e = ap
-    (λ (t : Bool). routed t file table client key answer (searched file table client key)) (sym e)
+module _ (file table : List ℕ) (client key : ℕ) (answer : List ℕ) where
+  search-is : (fits : Bool) → eqb (length answer) 24 ≡ fits
+      → routed fits file table client key answer (searched file table client key) ≡ search file table client key answer
+  unfolding search
+  search-is fits e = ap (λ (t : Bool). routed t file table client key answer (searched file table client key)) (sym e)
+
+  pub search-unfit : (length answer ≡ 24 → ⊥) → record { answer = 14; block = answer; table = table; file = file }
+      ≡ search file table client key answer
+  search-unfit h = routed-block file table client key answer _ ∙ search-is false (ne-eqb (length answer) 24 h)
+
+  module _ (long : length answer ≡ 24) {header : Header} {next : Image} {walk : Walk} {a place r : ℕ}
+      (way : Reaching file table client key header next walk a place r) where
+    pub search-refused : (r ≡ 0 → ⊥) → {left : List ℕ} → left ≡ block r (noted walk) 0 noPayload
+        → record { answer = r; block = left; table = table; file = file } ≡ search file table client key answer
+    search-refused some el = routed-refused file table client key answer _ way some el
+        ∙ search-is true (eq-eqb (length answer) 24 long)
+
+    pub search-reached : r ≡ 0 → {o : Outcome} → o ≡ searched file table client key
+        → o ≡ search file table client key answer
+    search-reached none eo = routed-reached file table client key answer _ way none eo
+        ∙ search-is true (eq-eqb (length answer) 24 long)
 
 pub search-single : (file table : List ℕ) (client key : ℕ) (answer : List ℕ) (o p : Outcome)
     → o ≡ search file table client key answer → p ≡ search file table client key answer → o ≡ p
 search-single file table client key answer o p eo ep = eo ∙ sym ep
 
-pub insert-is : (file table : List ℕ) (client key : ℕ) (payload answer : List ℕ) (fits : Bool)
-    → (eqb (length answer) 24 && eqb (length payload) 14) ≡ fits
-    → routed fits file table client key answer (placed file table client key payload)
-    ≡ insert file table client key payload answer
-unfolding insert
-insert-is file table client key payload answer fits e = ap
-    (λ (t : Bool). routed t file table client key answer (placed file table client key payload)) (sym e)
+module _ (file table : List ℕ) (client key : ℕ) (payload answer : List ℕ) where
+  insert-is : (fits : Bool) → (eqb (length answer) 24 && eqb (length payload) 14) ≡ fits
+      → routed fits file table client key answer (placed file table client key payload)
+      ≡ insert file table client key payload answer
+  unfolding insert
+  insert-is fits e = ap (λ (t : Bool). routed t file table client key answer (placed file table client key payload))
+      (sym e)
+
+  pub insert-unfit : not (eqb (length answer) 24 && eqb (length payload) 14) ≡ true
+      → record { answer = 14; block = answer; table = table; file = file }
+      ≡ insert file table client key payload answer
+  insert-unfit h = routed-block file table client key answer _ ∙ insert-is false (not-true _ h)
+
+  module _ (fits : not (eqb (length answer) 24 && eqb (length payload) 14) ≡ false) {header : Header} {next : Image}
+      {walk : Walk} {a place r : ℕ} (way : Reaching file table client key header next walk a place r) where
+    pub insert-refused : (r ≡ 0 → ⊥) → {left : List ℕ} → left ≡ block r (noted walk) 0 noPayload
+        → record { answer = r; block = left; table = table; file = file } ≡ insert file table client key payload answer
+    insert-refused some el = routed-refused file table client key answer _ way some el
+        ∙ insert-is true (not-false _ fits)
+
+    pub insert-reached : r ≡ 0 → {o : Outcome} → o ≡ placed file table client key payload
+        → o ≡ insert file table client key payload answer
+    insert-reached none eo = routed-reached file table client key answer _ way none eo
+        ∙ insert-is true (not-false _ fits)
 
 pub insert-single : (file table : List ℕ) (client key : ℕ) (payload answer : List ℕ) (o p : Outcome)
     → o ≡ insert file table client key payload answer → p ≡ insert file table client key payload answer → o ≡ p
 insert-single file table client key payload answer o p eo ep = eo ∙ sym ep
+
+-- the lengths that fit
+pub fits-answer : (x y : ℕ) → not (eqb x 24 && eqb y 14) ≡ false → x ≡ 24
+fits-answer x y h = eqb-true x 24 (and-left (eqb x 24) (eqb y 14) (not-false _ h))
+
+pub fits-payload : (x y : ℕ) → not (eqb x 24 && eqb y 14) ≡ false → y ≡ 14
+fits-payload x y h = eqb-true y 14 (and-right (eqb x 24) (eqb y 14) (not-false _ h))
+
+-- ---- at the key's own bucket
 
 -- over the capacity, and one ride more, in the own bucket
 module _ (file : List ℕ) (key a : ℕ) (own : a ≡ ownOf file key) where
@@ -78,49 +126,130 @@ module _ (file : List ℕ) (key a : ℕ) (own : a ≡ ownOf file key) where
   unfolding inserted
   inserted-is payload next en = en ∙ ap (λ (x : ℕ). withRide file x (record { key = key; payload = payload })) own
 
--- a search's two outcomes, and an insert's three, from what was written
-module _ (file table : List ℕ) (client key : ℕ) (way answer after : List ℕ)
-    (ew : way ≡ wayOf file (imageOf table client) key) (et : after ≡ adjustedTable file table client key) where
-  pub search-found : held file key ≡ true → (payload : List ℕ)
-      → payload ≡ rideAt (regionOf file (ownOf file key)) (slotOf (regionOf file (ownOf file key)) key) .payload
-      → answer ≡ block 0 way 0 payload
-      → record { answer = 0; block = answer; table = after; file = file } ≡ searched file table client key
-  unfolding searched
-  search-found h payload ep ea = rw h
-      (λ i.
-      record { answer = 0; block = (ea ∙ ap₂ (λ (w p : List ℕ). block 0 w 0 p) ew ep) i; table = et i; file = file })
-
-  pub search-absent : held file key ≡ false → answer ≡ block 1 way 0 noPayload
-      → record { answer = 1; block = answer; table = after; file = file } ≡ searched file table client key
-  unfolding searched
-  search-absent h ea = rw h
-      (λ i.
-      record { answer = 1; block = (ea ∙ ap (λ (w : List ℕ). block 1 w 0 noPayload) ew) i; table = et i; file = file })
-
-  pub insert-held : (payload : List ℕ) → held file key ≡ true → answer ≡ block 8 way 0 noPayload
-      → record { answer = 8; block = answer; table = after; file = file } ≡ placed file table client key payload
-  unfolding placed
-  insert-held payload h ea = rw h
-      (λ i.
-      record { answer = 8; block = (ea ∙ ap (λ (w : List ℕ). block 8 w 0 noPayload) ew) i; table = et i; file = file })
-
-  pub insert-full : (payload : List ℕ) → held file key ≡ false → full file key ≡ true → answer ≡ block 9 way 0 noPayload
-      → record { answer = 9; block = answer; table = after; file = file } ≡ placed file table client key payload
-  unfolding placed
-  insert-full payload h l ea = rw (h, l)
-      (λ i.
-      record { answer = 9; block = (ea ∙ ap (λ (w : List ℕ). block 9 w 0 noPayload) ew) i; table = et i; file = file })
-
-  pub insert-done : (payload : List ℕ) → held file key ≡ false → full file key ≡ false → (flag : ℕ)
-      → flag ≡ overfull file key → answer ≡ block 0 way flag noPayload
-      → (next : List ℕ) → next ≡ inserted file key payload
-      → record { answer = 0; block = answer; table = after; file = next } ≡ placed file table client key payload
-  unfolding placed
-  insert-done payload h l flag ef ea next en = rw (h, l)
-      (λ i.
-      record {
+-- a search's two outcomes, and an insert's three
+module _ (file table : List ℕ) (client key : ℕ) where
+  pub searched-held : held file key ≡ true
+      → record {
         answer = 0;
-        block = (ea ∙ ap₂ (λ (w : List ℕ) (f : ℕ). block 0 w f noPayload) ew ef) i;
-        table = et i;
-        file = en i;
-      })
+        block = block 0 (wayOf file (imageOf table client) key) 0
+            (rideAt (regionOf file (ownOf file key)) (slotOf (regionOf file (ownOf file key)) key) .payload);
+        table = adjustedTable file table client key;
+        file = file;
+      } ≡ searched file table client key
+  unfolding searched
+  searched-held h = rw h
+
+  pub searched-absent : held file key ≡ false
+      → record {
+        answer = 1;
+        block = block 1 (wayOf file (imageOf table client) key) 0 noPayload;
+        table = adjustedTable file table client key;
+        file = file;
+      } ≡ searched file table client key
+  unfolding searched
+  searched-absent h = rw h
+
+  module _ (payload : List ℕ) where
+    pub placed-held : held file key ≡ true
+        → record {
+          answer = 8;
+          block = block 8 (wayOf file (imageOf table client) key) 0 noPayload;
+          table = adjustedTable file table client key;
+          file = file;
+        } ≡ placed file table client key payload
+    unfolding placed
+    placed-held h = rw h
+
+    pub placed-full : held file key ≡ false → full file key ≡ true
+        → record {
+          answer = 9;
+          block = block 9 (wayOf file (imageOf table client) key) 0 noPayload;
+          table = adjustedTable file table client key;
+          file = file;
+        } ≡ placed file table client key payload
+    unfolding placed
+    placed-full h l = rw (h, l)
+
+    pub placed-done : held file key ≡ false → full file key ≡ false
+        → record {
+          answer = 0;
+          block = block 0 (wayOf file (imageOf table client) key) (overfull file key) noPayload;
+          table = adjustedTable file table client key;
+          file = inserted file key payload;
+        } ≡ placed file table client key payload
+    unfolding placed
+    placed-done h l = rw (h, l)
+
+-- from what was found there and what was written
+module _ {file table : List ℕ} {client key : ℕ} {header : Header} {next : Image} {walk : Walk} {a place : ℕ}
+    (own : AtOwn file table client key header next walk a place) {after : List ℕ}
+    (et : after ≡ withImage table client next) {count : ℕ}
+    (en : count ≡ countOf (regionOf file a)) where
+  adjusted-is : after ≡ adjustedTable file table client key
+  unfolding adjustedTable
+  adjusted-is = et ∙ ap (withImage table client) (own .after)
+
+  held-at : {b : Bool} → ltb place count ≡ b → held file key ≡ b
+  held-at h = sym (held-is file key a (own .own) place count (own .slot) en) ∙ h
+
+  full-at : {b : Bool} → leb (header .slots) count ≡ b → full file key ≡ b
+  full-at h = sym (full-is file key a (own .own) (header .slots) count (own .known .slots) en) ∙ h
+
+  -- a block of the route, with no payload
+  shown : (r : ℕ) {left : List ℕ} → left ≡ block r (noted walk) 0 noPayload
+      → left ≡ block r (wayOf file (imageOf table client) key) 0 noPayload
+  shown r el = el ∙ ap (λ (l : List ℕ). block r l 0 noPayload) (own .way)
+
+  pub search-found : {left : List ℕ} → ltb place count ≡ true
+      → left ≡ block 0 (noted walk) 0 (rideAt (regionOf file a) place .payload)
+      → record { answer = 0; block = left; table = after; file = file } ≡ searched file table client key
+  search-found h el =
+      (λ i. record { answer = 0; block = (el ∙ found) i; table = adjusted-is i; file = file })
+      ∙ searched-held file table client key (held-at h)
+    where
+      found : block 0 (noted walk) 0 (rideAt (regionOf file a) place .payload)
+          ≡ block 0 (wayOf file (imageOf table client) key) 0
+          (rideAt (regionOf file (ownOf file key)) (slotOf (regionOf file (ownOf file key)) key) .payload)
+      found = ap₂ (λ (l : List ℕ) (k : ℕ). block 0 l 0 (rideAt (regionOf file a) k .payload)) (own .way) (own .slot)
+          ∙ ap (λ (x : ℕ). block 0 (wayOf file (imageOf table client) key) 0
+          (rideAt (regionOf file x) (slotOf (regionOf file x) key) .payload)) (own .own)
+
+  pub search-absent : {left : List ℕ} → ltb place count ≡ false → left ≡ block 1 (noted walk) 0 noPayload
+      → record { answer = 1; block = left; table = after; file = file } ≡ searched file table client key
+  search-absent h el = (λ i. record { answer = 1; block = shown 1 el i; table = adjusted-is i; file = file })
+      ∙ searched-absent file table client key (held-at h)
+
+  module _ (payload : List ℕ) {left : List ℕ} where
+    pub insert-held : ltb place count ≡ true → left ≡ block 8 (noted walk) 0 noPayload
+        → record { answer = 8; block = left; table = after; file = file } ≡ placed file table client key payload
+    insert-held h el = (λ i. record { answer = 8; block = shown 8 el i; table = adjusted-is i; file = file })
+        ∙ placed-held file table client key payload (held-at h)
+
+    pub insert-full : ltb place count ≡ false → leb (header .slots) count ≡ true
+        → left ≡ block 9 (noted walk) 0 noPayload
+        → record { answer = 9; block = left; table = after; file = file } ≡ placed file table client key payload
+    insert-full h l el = (λ i. record { answer = 9; block = shown 9 el i; table = adjusted-is i; file = file })
+        ∙ placed-full file table client key payload (held-at h) (full-at l)
+
+    pub insert-done : ltb place count ≡ false → leb (header .slots) count ≡ false → {grown : List ℕ}
+        → grown ≡ withRide file a (record { key = key; payload = payload })
+        → left ≡ block 0 (noted walk) (cond (ltb (header .capacity) (count + 1)) 1 0) noPayload
+        → record { answer = 0; block = left; table = after; file = grown } ≡ placed file table client key payload
+    insert-done h l {grown} ex el =
+        (λ i.
+        record {
+          answer = 0;
+          block = (el ∙ ap₂ (λ (w : List ℕ) (f : ℕ). block 0 w f noPayload) (own .way) over) i;
+          table = adjusted-is i;
+          file = inserted-is file key a (own .own) payload grown ex i;
+        }) ∙ placed-done file table client key payload (held-at h) (full-at l)
+      where
+        over : cond (ltb (header .capacity) (count + 1)) 1 0 ≡ overfull file key
+        over = over-is file key a (own .own) (header .capacity) (count + 1) count (own .known .capacity) refl en
+
+-- the block of a ride that was placed
+pub placed-block : (walk : Walk) (b count : ℕ) {left : List ℕ} {flag n : ℕ} → n ≡ count + 1 → flag ≡ cond (ltb b n) 1 0
+    → left ≡ block 0 (noted walk) flag noPayload
+    → left ≡ block 0 (noted walk) (cond (ltb b (count + 1)) 1 0) noPayload
+placed-block walk b count en ef el = el
+    ∙ ap (λ (f : ℕ). block 0 (noted walk) f noPayload) (ef ∙ ap (λ (x : ℕ). cond (ltb b x) 1 0) en)

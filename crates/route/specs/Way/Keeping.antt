@@ -1,30 +1,25 @@
 -- What is known of a call that is not refused before its route: in a sound file no bucket on the route is unsound;
 -- the image after it is well formed, not ahead of the file and believes in no fewer buckets.
-use Prim.Native.Nat.{ℕ, _+_, _*_, _≤_, _<_}
-use mathlib.Core.Path.{_≡_, refl, sym, ap, _∙_}
-use mathlib.Core.Bool.{Bool, true, false}
-use mathlib.Core.List.{List, [], _∷_}
-use mathlib.Core.Logic.{by-cases}
-use native.Mathlib.Decide.{ℕ-discrete}
+use Prim.Native.Nat.{ℕ, _+_, _*_, _≤_}
+use mathlib.Core.Path.{_≡_, ap, _∙_}
+use mathlib.Core.Bool.{true}
+use mathlib.Core.List.{List, _∷_}
 use native.Mathlib.Omega.{arith}
-use borrow.Author.Tests.{ltb-true, ltb-false}
-use lib.Dec.{ltb}
 use lib.ListN.{length}
 use Rattle.address.specs.Limits.{firstBuckets, mostLevel}
 use Rattle.address.specs.Rules.{Formed, NotAhead, buckets, address, imageAfter}
-use Rattle.address.specs.Rules.Cases.{buckets-is}
 use Rattle.address.specs.Rules.Adjust.{after-formed, after-behind, after-grows}
 use Rattle.address.specs.Rules.Route.{delivered}
 use Rattle.layout.specs.Replies.{reply}
 use Rattle.bucket.specs.Region.{every}
 use Rattle.bucket.specs.Region.Every.{every-below}
-use Rattle.client.specs.Table.{imageOf, recordSound, tableRefusals}
+use Rattle.client.specs.Table.{imageOf, recordSound}
 use Rattle.client.specs.Table.Laws.{record-image, record-fits}
 use Rattle.file.specs.File.{mostOf, stateOf, bucketsOf, headerSound, bucketSoundIn, fileSound}
-use Rattle.file.specs.File.Judge.{header-ranges, buckets-of, existing, state-small}
+use Rattle.file.specs.File.Judge.{header-ranges, existing, state-small}
 use Rattle.file.specs.File.Keeping.{sound-bucket}
 use Rattle.route.specs.Way.{early, wayOf}
-use Rattle.route.specs.Way.Open.{early-table, early-record, early-header, early-ahead}
+use Rattle.route.specs.Way.Open.{early-passes}
 
 -- what a call that is not refused before its route has passed
 pub record Passed (file table : List ℕ) (client : ℕ) : Type 0 where
@@ -35,33 +30,8 @@ pub record Passed (file table : List ℕ) (client : ℕ) : Type 0 where
 
 pub passed : (file table : List ℕ) (client : ℕ) → reply (early file table client) 0 ≡ 0 → Passed file table client
 passed file table client none =
+    let (passes, recorded, headed, near) = early-passes file table client none in
     record { there = record-fits table client passes; image-sound = recorded; header-sound = headed; behind = near }
-  where
-    passes : reply (tableRefusals table client) 0 ≡ 0
-    passes = by-cases (ℕ-discrete (reply (tableRefusals table client) 0) 0) (λ e. e)
-        (λ some. absurd (some (early-table file table client (reply (tableRefusals table client) 0) refl some ∙ none)))
-
-    recorded : recordSound table client ≡ true
-    recorded = go (recordSound table client) refl
-      where
-        go : (b : Bool) → recordSound table client ≡ b → recordSound table client ≡ true
-        go true e = e
-        go false e = absurd (omega (arith, early-record file table client passes e, none))
-
-    headed : headerSound file ≡ true
-    headed = go (headerSound file) refl
-      where
-        go : (b : Bool) → headerSound file ≡ b → headerSound file ≡ true
-        go true e = e
-        go false e = absurd (omega (arith, early-header file table client passes recorded e, none))
-
-    near : buckets firstBuckets (imageOf table client) ≤ bucketsOf file
-    near = go (ltb (bucketsOf file) (buckets firstBuckets (imageOf table client))) refl
-      where
-        go : (b : Bool) → ltb (bucketsOf file) (buckets firstBuckets (imageOf table client)) ≡ b
-            → buckets firstBuckets (imageOf table client) ≤ bucketsOf file
-        go true e = absurd (omega (arith, early-ahead file table client passes recorded headed (ltb-true _ _ e), none))
-        go false e = ltb-false _ _ e
 
 module _ (file table : List ℕ) (client : ℕ) (open-to : Passed file table client) where
   pub formed : Formed firstBuckets (stateOf file)

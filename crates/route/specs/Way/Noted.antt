@@ -58,8 +58,10 @@ module _ (walk : Walk) (a : ℕ) where
   unfolding noted
   note-second e = rw e
 
-  pub note-third : walk .count ≡ 2
+  pub note-third : (walk .count ≡ 0 → ⊥) → (walk .count ≡ 1 → ⊥) → walk .count ≤ 2
       → noted (record { count = walk .count + 1; first = walk .first; second = walk .second; third = a })
       ≡ noted walk ++ (a ∷ [])
   unfolding noted
-  note-third e = rw e
+  note-third some more few =
+      let e : walk .count ≡ 2 = omega arith in
+      rw e

@@ -1,23 +1,26 @@
 -- A route walked bucket by bucket: what is noted so far and what is still to come are the whole route, cut after its
 -- first unsound bucket.
 use Prim.Native.Nat.{ℕ, suc, _+_, _-_, _≤_, _<_}
-use mathlib.Core.Path.{_≡_, refl, sym, ap, ap₂, _∙_}
-use mathlib.Core.Bool.{Bool, true, false, cond, false≢true}
+use mathlib.Core.Path.{_≡_, refl, sym, ap, ap₂, subst, _∙_}
+use mathlib.Core.Bool.{Bool, true, false, cond, not}
 use mathlib.Core.List.{List, [], _∷_, _++_, append-assoc}
 use mathlib.Core.Logic.{⊎-elim}
 use native.Mathlib.Omega.{arith}
-use Rattle.address.specs.Limits.{firstBuckets}
+use Rattle.address.specs.Limits.{firstBuckets, mostLevel}
+use Rattle.address.specs.Room.{Room, ImageRoom}
 use Rattle.address.specs.declared.Image.{Image}
 use Rattle.address.specs.Rules.{Formed, NotAhead, buckets, hash, address, level, onward, fate, route, routeFrom}
 use Rattle.address.specs.Compare.{same}
-use Rattle.address.specs.Rules.Cases.{buckets-is, fate-kept, fate-sent, fate-stopped}
+use Rattle.address.specs.Rules.Cases.{buckets-is, level-high, fate-kept, fate-sent, fate-stopped}
+use Rattle.address.specs.declared.Fate.{Fate}
 use Rattle.address.specs.declared.Fate.the-variants.{Keep, SendOn, Unsound}
 use Rattle.address.specs.Rules.Address.{address-own}
 use Rattle.address.specs.Rules.Route.{Reaches, kept, sent, reaches, reaches-room, route-is, route-kept, route-sent}
-use Rattle.bucket.specs.Region.{every}
+use Rattle.bucket.specs.Region.{slotOf, every}
 use Rattle.bucket.specs.Region.Every.{every-none, every-first, every-rest, every-next, every-fails, every-past}
-use Rattle.file.specs.File.{stateOf, bucketsOf, bucketSoundIn}
-use Rattle.file.specs.File.Judge.{buckets-of}
+use Rattle.file.specs.File.{stateOf, bucketsOf, regionOf, bucketSoundIn}
+use Rattle.file.specs.File.Judge.{Known, buckets-of}
+use Rattle.file.specs.declared.Header.{Header}
 use Rattle.route.specs.declared.Walk.{Walk}
 use Rattle.route.specs.Way.{cut, wayOf, ownOf, noted}
 use Rattle.route.specs.Way.Noted.{noted-none}
@@ -78,21 +81,25 @@ pub record Walking (file : List ℕ) (key : ℕ) (way : List ℕ) (walk : Walk) 
   pub whole : way ≡ noted walk ++ routeFrom firstBuckets (stateOf file) key most a
   pub fine : every (bucketSoundIn file) (noted walk) ≡ true
 
--- what a walk that ended tells: the route up to its first unsound bucket, and whether all were sound; then it ends at
--- the key's own bucket
-pub record Walked (file : List ℕ) (key : ℕ) (way : List ℕ) (walk : Walk) (a : ℕ) (all : Bool) : Type 0 where
-  pub few : walk .count ≤ 3
+-- what is known of a walk that reached the key's own bucket
+pub record Ended (file : List ℕ) (key : ℕ) (way : List ℕ) (walk : Walk) (a place : ℕ) : Type 0 where
   pub some : 1 ≤ walk .count
-  pub sound : all ≡ every (bucketSoundIn file) way
-  pub met : noted walk ≡ cut (bucketSoundIn file) way
   pub there : a < bucketsOf file
-  pub good : all ≡ true → bucketSoundIn file a ≡ true
-  pub own : all ≡ true → a ≡ ownOf file key
-  pub whole : all ≡ true → noted walk ≡ way
+  pub good : bucketSoundIn file a ≡ true
+  pub own : a ≡ ownOf file key
+  pub whole : noted walk ≡ way
+  pub slot : place ≡ slotOf (regionOf file a) key
+
+-- what a walk that ended tells: the route up to its first unsound bucket, and 7 if there is one
+pub record Walked (file : List ℕ) (key : ℕ) (way : List ℕ) (walk : Walk) (a place r : ℕ) : Type 0 where
+  pub few : walk .count ≤ 3
+  pub is : r ≡ cond (not (every (bucketSoundIn file) way)) 7 0
+  pub met : noted walk ≡ cut (bucketSoundIn file) way
+  pub ended : r ≡ 0 → Ended file key way walk a place
 
 module _ (file : List ℕ) (key : ℕ) (formed : Formed firstBuckets (stateOf file)) where
   -- a walk starts at the client's first bucket
-  pub walking-start : (image : Image) (walk : Walk) → walk .count ≡ 0 → Formed firstBuckets image
+  walking-start : (image : Image) (walk : Walk) → walk .count ≡ 0 → Formed firstBuckets image
       → NotAhead firstBuckets (stateOf file) image
       → (start : ℕ) → start ≡ address firstBuckets image key → Walking file key (wayFrom file key start) walk start
   unfolding wayFrom
@@ -110,18 +117,17 @@ module _ (file : List ℕ) (key : ℕ) (formed : Formed firstBuckets (stateOf fi
         fine = ap (every (bucketSoundIn file)) (noted-none walk none) ∙ every-none (bucketSoundIn file);
       }
 
+  -- the bucket that a walk is at exists
+  walking-exists : (way : List ℕ) (walk : Walk) (a : ℕ) → Walking file key way walk a → a < bucketsOf file
+  walking-exists way walk a so = omega (
+    arith,
+    reaches-room firstBuckets some-first (stateOf file) formed (so .reached),
+    buckets-of file,
+    buckets-is firstBuckets (stateOf file),
+  )
+
   module _ (way : List ℕ) (walk next : Walk) (a : ℕ) (so : Walking file key way walk a)
       (noting : noted next ≡ noted walk ++ (a ∷ [])) (counted : next .count ≡ walk .count + 1) where
-    -- the bucket that a walk is at exists
-    pub walking-exists : a < bucketsOf file
-    walking-exists = omega (
-      arith,
-      reaches-room firstBuckets some-first (stateOf file) formed (so .reached),
-      buckets-of file,
-      buckets-is
-          firstBuckets (stateOf file),
-    )
-
     again : so .most ≡ suc (so .most - 1)
     again = omega (arith, so .room)
 
@@ -141,48 +147,56 @@ module _ (file : List ℕ) (key : ℕ) (formed : Formed firstBuckets (stateOf fi
         ))
         (same (hash firstBuckets (level firstBuckets (stateOf file) a) key) a)
 
-    pub walk-stopped : bucketSoundIn file a ≡ false → Walked file key way next a false
+    walk-stopped : bucketSoundIn file a ≡ false → {place : ℕ} → Walked file key way next a place 7
     walk-stopped bad =
         let (rest, e) = first in
         let is : way ≡ noted walk ++ (a ∷ rest) = so .whole ∙ ap (λ (l : List ℕ). noted walk ++ l) e in
         record {
           few = omega (arith, so .few);
-          some = omega arith;
-          sound = sym
-              (ap (every (bucketSoundIn file)) is ∙ every-past (bucketSoundIn file) (noted walk) (a ∷ rest) (so .fine)
-              ∙ every-fails (bucketSoundIn file) a rest bad);
+          is = ap (λ (b : Bool). cond (not b) 7 0)
+              (sym (ap (every (bucketSoundIn file)) is
+              ∙ every-past (bucketSoundIn file) (noted walk) (a ∷ rest) (so .fine)
+              ∙ every-fails (bucketSoundIn file) a rest bad));
           met = noting
               ∙ sym (ap (cut (bucketSoundIn file)) is ∙ cut-past (bucketSoundIn file) (noted walk) (a ∷ rest) (so .fine)
               ∙ ap (λ (l : List ℕ). noted walk ++ l) (cut-fails (bucketSoundIn file) a rest bad));
-          there = walking-exists;
-          good = λ h. absurd (false≢true h);
-          own = λ h. absurd (false≢true h);
-          whole = λ h. absurd (false≢true h);
+          ended = λ e. absurd (omega (arith, e));
         }
 
-    pub walk-kept : bucketSoundIn file a ≡ true → hash firstBuckets (level firstBuckets (stateOf file) a) key ≡ a
-        → Walked file key way next a true
-    walk-kept good keeps =
+    walk-kept : bucketSoundIn file a ≡ true → hash firstBuckets (level firstBuckets (stateOf file) a) key ≡ a
+        → {place : ℕ} → place ≡ slotOf (regionOf file a) key → Walked file key way next a place 0
+    walk-kept good keeps ep =
         let is : way ≡ noted walk ++ (a ∷ []) =
         so .whole ∙ ap (λ (n : ℕ). noted walk ++ routeFrom firstBuckets (stateOf file) key n a) again
         ∙ ap (λ (l : List ℕ). noted walk ++ l) (route-kept firstBuckets (stateOf file) key (so .most - 1) a keeps) in
         record {
           few = omega (arith, so .few);
-          some = omega arith;
-          sound = sym
-              (ap (every (bucketSoundIn file)) is ∙ every-past (bucketSoundIn file) (noted walk) (a ∷ []) (so .fine)
-              ∙ every-next (bucketSoundIn file) a [] good ∙ every-none (bucketSoundIn file));
+          is = ap (λ (b : Bool). cond (not b) 7 0)
+              (sym (ap (every (bucketSoundIn file)) is
+              ∙ every-past (bucketSoundIn file) (noted walk) (a ∷ []) (so .fine)
+              ∙ every-next (bucketSoundIn file) a [] good ∙ every-none (bucketSoundIn file)));
           met = noting
               ∙ sym (ap (cut (bucketSoundIn file)) is ∙ cut-past (bucketSoundIn file) (noted walk) (a ∷ []) (so .fine)
               ∙ ap (λ (l : List ℕ). noted walk ++ l) (cut-one (bucketSoundIn file) a));
-          there = walking-exists;
-          good = λ h. good;
-          own = λ h. sym (own-is file key a (address-own firstBuckets some-first (stateOf file) formed a key
-              (omega (arith, walking-exists, buckets-of file, buckets-is firstBuckets (stateOf file))) .1 keeps));
-          whole = λ h. noting ∙ sym is;
+          ended = λ h.
+              record {
+                some = omega arith;
+                there = walking-exists way walk a so;
+                good = good;
+                own = sym (own-is file key a (address-own firstBuckets some-first (stateOf file) formed a key
+                    (omega (
+                      arith,
+                      walking-exists way walk a so,
+                      buckets-of file,
+                      buckets-is firstBuckets
+                          (stateOf file),
+                    )) .1 keeps));
+                whole = noting ∙ sym is;
+                slot = ep;
+              };
         }
 
-    pub walk-sent : (b : ℕ) → bucketSoundIn file a ≡ true
+    walk-sent : (b : ℕ) → bucketSoundIn file a ≡ true
         → (hash firstBuckets (level firstBuckets (stateOf file) a) key ≡ a → ⊥)
         → onward firstBuckets a (level firstBuckets (stateOf file) a) key ≡ b
         → Walking file key way next b × (next .count ≤ 2)
@@ -214,24 +228,74 @@ module _ (file : List ℕ) (key : ℕ) (formed : Formed firstBuckets (stateOf fi
           omega arith,
         )
 
-    -- by the fate that the key meets there
-    module _ (sound : Bool) (es : sound ≡ bucketSoundIn file a) (l : ℕ)
-        (el : l ≡ level firstBuckets (stateOf file) a) where
-      at-level : {x : ℕ} → hash firstBuckets l key ≡ x → hash firstBuckets (level firstBuckets (stateOf file) a) key ≡ x
-      at-level e = ap (λ (k : ℕ). hash firstBuckets k key) (sym el) ∙ e
+-- the code asks room for its figures
+pub behind-room : {file : List ℕ} {header : Header} {image : Image} → Known file header → image .level ≤ mostLevel
+    → NotAhead firstBuckets (stateOf file) image → ImageRoom firstBuckets image
+behind-room {file} {header} {image} seen low behind = record {
+  levels = record { some = omega arith; few = omega arith; low = omega arith };
+  near = omega (
+    arith,
+    buckets-is firstBuckets image,
+    buckets-is firstBuckets (stateOf file),
+    buckets-of file,
+    seen .ranges .few,
+    seen .ranges .figured .few-buckets,
+  );
+}
 
-      pub met-keep : fate firstBuckets sound a l key ≡ Keep
-          → (bucketSoundIn file a ≡ true) × Walked file key way next a true
-      met-keep e =
-          let (good, keeps) = fate-kept firstBuckets a l key sound e in
-          (sym es ∙ good, walk-kept (sym es ∙ good) (at-level keeps))
+pub level-room : (state : Image) (a : ℕ) → ImageRoom firstBuckets state → {l : ℕ} → l ≡ level firstBuckets state a
+    → Room firstBuckets l
+level-room state a room el = record {
+  some = omega arith;
+  few = omega arith;
+  low = omega (arith, level-high firstBuckets state a, room .levels .low);
+}
 
-      pub met-unsound : fate firstBuckets sound a l key ≡ Unsound → Walked file key way next a false
-      met-unsound e = walk-stopped (sym es ∙ fate-stopped firstBuckets a l key sound e)
+-- the walking function's way: its start, and what it does by the fate that the key meets at a bucket
+module _ {file : List ℕ} {header : Header} (seen : Known file header) where
+  pub walk-starts : (image : Image) → Formed firstBuckets image → NotAhead firstBuckets (stateOf file) image
+      → {walk : Walk} → walk .count ≡ 0 → {key start : ℕ} → start ≡ address firstBuckets image key
+      → Walking file key (wayFrom file key start) walk start
+  walk-starts image formed behind {walk} none {key} {start} es =
+      walking-start file key (seen .ranges .formed) image walk none formed behind start es
 
-      pub met-send : (b : ℕ) → fate firstBuckets sound a l key ≡ SendOn b
-          → Walking file key way next b × (next .count ≤ 2)
-      met-send b e =
-          let (good, leaves, to) = fate-sent firstBuckets a l key sound b e in
-          walk-sent b (sym es ∙ good) (λ h. leaves (ap (λ (k : ℕ). hash firstBuckets k key) el ∙ h))
-          (ap (λ (k : ℕ). onward firstBuckets a k key) (sym el) ∙ to)
+  pub walk-there : {way : List ℕ} {key : ℕ} {walk : Walk} {a : ℕ} → Walking file key way walk a → a < bucketsOf file
+  walk-there {way} {key} {walk} {a} so = walking-exists file key (seen .ranges .formed) way walk a so
+
+  module _ {way : List ℕ} {key : ℕ} {walk : Walk} {a : ℕ} (so : Walking file key way walk a) (next : Walk)
+      (noting : noted next ≡ noted walk ++ (a ∷ [])) (counted : next .count ≡ walk .count + 1) where
+    module _ {sound : Bool} (es : sound ≡ bucketSoundIn file a) {l : ℕ} (el : l ≡ level firstBuckets (header .state) a)
+        {f : Fate} (ef : f ≡ fate firstBuckets sound a l key) where
+      at-level : level firstBuckets (stateOf file) a ≡ l
+      at-level = sym (el ∙ ap (λ (s : Image). level firstBuckets s a) (seen .state))
+
+      pub walk-keeps : {place : ℕ} → (sound ≡ true → place ≡ slotOf (regionOf file a) key) → f ≡ Keep
+          → Walked file key way next a place 0
+      walk-keeps ep e =
+          let (good, keeps) = fate-kept firstBuckets a l key sound (sym ef ∙ e) in
+          walk-kept file key (seen .ranges .formed) way walk next a so noting counted (sym es ∙ good)
+          (ap (λ (k : ℕ). hash firstBuckets k key) at-level ∙ keeps) (ep good)
+
+      pub walk-stops : {place : ℕ} → f ≡ Unsound → Walked file key way next a place 7
+      walk-stops e = walk-stopped file key (seen .ranges .formed) way walk next a so noting counted
+          (sym es ∙ fate-stopped firstBuckets a l key sound (sym ef ∙ e))
+
+      sends : {b : ℕ} → f ≡ SendOn b → Walking file key way next b × (next .count ≤ 2)
+      sends {b} e =
+          let (good, leaves, to) = fate-sent firstBuckets a l key sound b (sym ef ∙ e) in
+          walk-sent file key (seen .ranges .formed) way walk next a so noting counted b (sym es ∙ good)
+          (λ h. leaves (ap (λ (k : ℕ). hash firstBuckets k key) (sym at-level) ∙ h))
+          (ap (λ (k : ℕ). onward firstBuckets a k key) at-level ∙ to)
+
+      pub walk-sends : {b : ℕ} → f ≡ SendOn b → Walking file key way next b
+      walk-sends e = sends e .0
+
+      pub walk-short : {b : ℕ} → f ≡ SendOn b → next .count ≤ 2
+      walk-short e = sends e .1
+
+-- the route from the client's first bucket is the client's
+pub walked-way : {file : List ℕ} {key start : ℕ} {walk : Walk} {a place r : ℕ} (image : Image)
+    → start ≡ address firstBuckets image key → Walked file key (wayFrom file key start) walk a place r
+    → Walked file key (wayOf file image key) walk a place r
+walked-way {file} {key} {start} {walk} {a} {place} {r} image es =
+    subst (λ (way : List ℕ). Walked file key way walk a place r) (way-is file image key start es)

@@ -2,11 +2,11 @@
 -- which keys match; it ends at the first unsound bucket.
 use borrow.Author.Needs.{needs}
 use Prim.Native.Nat.{_-_}
-use mathlib.Core.Path.{_≡_, refl, sym, _∙_}
-use native.Mathlib.Omega.{arith}
-use borrow.Author.Tests.{not-true, not-false}
+use mathlib.Core.Path.{_≡_, refl}
 use lib.ListN.{length, length-set}
-use Rattle.scan.specs.Scan.Tally.{Tallied, tally-none, tally-stop, tally-few, tally-more, tally-done, keys-few}
+use Rattle.scan.specs.Scan.Tally.{Tallied, tally-none, tally-stop, tally-sound, tally-fits, tally-few}
+use Rattle.scan.specs.Scan.Tally.{tally-more, tally-done}
+use Rattle.scan.specs.Scan.Way.{way-exists}
 use Rattle.scan.proofs.judge_way.Statement.{statement}
 use Rattle.scan.proofs.judge_way.Tie as tie
 
@@ -18,10 +18,7 @@ abbrev μ-loop : tie.MeasureT-loop
 μ-loop file header way lift bits₀ matches₀ k₀ bits matches k = length way - k
 
 loop-holds : tie.Need-loop-holds Inv-loop μ-loop
-loop-holds c =
-    let d = c .before .before .before in
-    let a = d .args in
-    (refl, tally-none (a .file .now) (a .lift) (a .way .now) (a .bits .now) (d .pre .2))
+loop-holds c = (refl, search tally-none)
 
 mul-number : tie.Need-mul-number Inv-loop μ-loop
 mul-number c = search needs
@@ -33,60 +30,25 @@ number-requires : tie.Need-number-requires Inv-loop μ-loop
 number-requires c κs = search needs
 
 bucket-sound-requires : tie.Need-bucket-sound-requires Inv-loop μ-loop
-bucket-sound-requires c κs =
-    let pre = c .before .before .before .before .before .before .before .pre in (
-      pre .0,
-      omega (
-        arith,
-        pre .1 .exist (c .before .before .before .loop .k) (c .before .before .loop-test .taken),
-        c .number .ensures,
-      ),
-    )
+bucket-sound-requires c κs = (search needs, search way-exists)
 
 same-length : tie.Need-same-length Inv-loop μ-loop
-same-length c = c .before .before .before .before .before .loop .inv .0
+same-length c = search needs
 
 returns : tie.Need-returns Inv-loop μ-loop
-returns c =
-    let n = c .before .before .number in
-    tally-stop (c .before .before .before .before .before .loop .inv .1) (n .result) (n .ensures)
-    (c .before .before .before .before .loop-test .taken)
-    (sym (c .before .bucket-sound .ensures) ∙ not-true _ (c .if1 .taken))
+returns c = search tally-stop
 
 match-bits-requires : tie.Need-match-bits-requires Inv-loop μ-loop
-match-bits-requires c κs =
-    let pre = c .before .before .before .before .before .before .before .before .before .pre in (
-      pre .0,
-      omega (
-        arith,
-        pre .1 .exist (c .before .before .before .before .before .loop .k)
-            (c .before .before .before .before .loop-test .taken),
-        c .before .before .number .ensures,
-      ),
-      sym
-          (c .before .bucket-sound .ensures) ∙ not-false _ (c .if1 .left),
-    )
+match-bits-requires c κs = (search needs, search way-exists, search tally-sound)
 
 mul-bits : tie.Need-mul-bits Inv-loop μ-loop
 mul-bits c = search needs
 
 slice-write-bits : tie.Need-slice-write-bits Inv-loop μ-loop
-slice-write-bits c = omega (
-  arith,
-  c .before .before .before .before .before .before .loop .inv .1 .long,
-  c .before .before .before .before .before .loop-test .taken,
-)
+slice-write-bits c = search tally-fits
 
 add-matches : tie.Need-add-matches Inv-loop μ-loop
-add-matches c =
-    let l = c .before .before .before .before .before .before .loop in
-    let n = c .before .before .before .number in
-    let pre = c .before .before .before .before .before .before .before .before .before .before .pre in
-    let more = c .before .before .before .before .before .loop-test .taken in
-    let fine = sym (c .before .before .bucket-sound .ensures) ∙ not-false _ (c .before .if1 .left) in
-    let few = tally-few (l .inv .1) (n .result) (n .ensures) more fine (keys-few (pre .0) (n .result) fine)
-    (c .match-bits .result) (c .match-bits .ensures) in
-    record { fits = omega (arith, few, l .inv .1 .few, pre .1 .few, more) }
+add-matches c = record { fits = search tally-few }
 
 add-k : tie.Need-add-k Inv-loop μ-loop
 add-k c = search needs
@@ -95,21 +57,13 @@ loop-less : tie.Need-loop-less Inv-loop μ-loop
 loop-less c = search needs
 
 loop-again : tie.Need-loop-again Inv-loop μ-loop
-loop-again c =
-    let l = c .before .before .before .before .before .before .loop in
-    let n = c .before .before .before .number in
-    let fine = sym (c .before .before .bucket-sound .ensures) ∙ not-false _ (c .before .if1 .left) in (
-      length-set (l .bits) (l .k) (c .match-bits .result) ∙ l .inv .0,
-      tally-more (l .inv .1) (n .result) (n .ensures) (c .before .before .before .before .before .loop-test .taken) fine
-          (keys-few (c .before .before .before .before .before .before .before .before .before .before .pre .0)
-          (n .result) fine) (c .match-bits .result) (c .match-bits .ensures),
-    )
+loop-again c = (search length-set, search tally-more)
 
 same-length-2 : tie.Need-same-length-2 Inv-loop μ-loop
-same-length-2 c = c .before .loop .inv .0
+same-length-2 c = search needs
 
 returns-2 : tie.Need-returns-2 Inv-loop μ-loop
-returns-2 c = tally-done (c .before .loop .inv .1) (c .loop-test .left)
+returns-2 c = search tally-done
 
 pub judge-way-spec : {M : Type 1} → statement M
 judge-way-spec =

@@ -23,10 +23,7 @@ abbrev μ-loop : tie.MeasureT-loop
     - slot
 
 loop-holds : tie.Need-loop-holds Inv-loop μ-loop
-loop-holds c =
-    let d = c .before .before in
-    let a = d .args in
-    fill-none (keysIn (a .file .now) (a .bucket)) (a .bits) (a .from) (a .matches .now) (d .pre .3)
+loop-holds c = search fill-none
 
 cast-found : tie.Need-cast-found Inv-loop μ-loop
 cast-found c =
@@ -51,56 +48,55 @@ mul-matches : tie.Need-mul-matches Inv-loop μ-loop
 mul-matches c = search needs
 
 slice-write-matches : tie.Need-slice-write-matches Inv-loop μ-loop
-slice-write-matches c =
-    let d = c .before .before .before .before .before in
-    fill-fits (c .before .before .loop .inv) (keys-few (d .pre .0) (d .args .bucket) (d .pre .2))
-    (c .before .loop-test .taken) (d .pre .4)
+slice-write-matches c = search (fill-fits, keys-few)
 
 cast-left : tie.Need-cast-left Inv-loop μ-loop
 cast-left c =
-    let d = c .before .before .before .before .before in
+    let at = c .before .before in
+    let d = at .before .before .before in
     let short = keys-few (d .pre .0) (d .args .bucket) (d .pre .2) in
-    omega (arith, short, fill-within (c .before .before .loop .inv) short (c .before .loop-test .taken))
+    omega (arith, short, fill-within (at .loop .inv) short (c .before .loop-test .taken))
 
 shr-left : tie.Need-shr-left Inv-loop μ-loop
 shr-left c =
-    let d = c .before .before .before .before .before in
+    let at = c .before .before in
+    let d = at .before .before .before in
     let short = keys-few (d .pre .0) (d .args .bucket) (d .pre .2) in
-    omega (arith, short, fill-within (c .before .before .loop .inv) short (c .before .loop-test .taken))
+    omega (arith, short, fill-within (at .loop .inv) short (c .before .loop-test .taken))
 
 add-slot : tie.Need-add-slot Inv-loop μ-loop
 add-slot c =
-    let d = c .before .before .before .before .before in
+    let at = c .before .before in
+    let d = at .before .before .before in
     let short = keys-few (d .pre .0) (d .args .bucket) (d .pre .2) in
-    record {
-      fits = omega
-          (arith, short, fill-within (c .before .before .loop .inv) short (c .before .loop-test .taken));
-    }
+    record { fits = omega (arith, short, fill-within (at .loop .inv) short (c .before .loop-test .taken)) }
 
 add-filled : tie.Need-add-filled Inv-loop μ-loop
 add-filled c = search needs
 
 loop-less : tie.Need-loop-less Inv-loop μ-loop
 loop-less c =
-    let d = c .before .before .before .before .before in
+    let at = c .before .before in
+    let d = at .before .before .before in
     omega (
       arith,
-      fill-within (c .before .before .loop .inv) (keys-few (d .pre .0) (d .args .bucket) (d .pre .2))
+      fill-within (at .loop .inv) (keys-few (d .pre .0) (d .args .bucket) (d .pre .2))
           (c .before .loop-test .taken),
     )
 
 loop-again : tie.Need-loop-again Inv-loop μ-loop
 loop-again c =
-    let d = c .before .before .before .before .before in
+    let at = c .before .before in
+    let d = at .before .before .before in
     let a = d .args in
-    let l = c .before .before .loop in
+    let l = at .loop in
     let some = c .before .loop-test .taken in
     let short = keys-few (d .pre .0) (a .bucket) (d .pre .2) in
-    let used : l .slot + trailingZeros 64 (l .left)
-    < countOf (regionOf (a .file .now) (a .bucket)) = omega
-    (arith, fill-within (l .inv) short some, keys-in-count (a .file .now) (a .bucket)) in
+    let k = l .slot + trailingZeros 64 (l .left) in
+    let used : k < countOf (regionOf (a .file .now) (a .bucket)) =
+    omega (arith, fill-within (l .inv) short some, keys-in-count (a .file .now) (a .bucket)) in
     fill-more (l .inv) short some (d .pre .4) (c .key-in .result)
-    (c .key-in .ensures ∙ key-of (a .file .now) (a .bucket) (l .slot + trailingZeros 64 (l .left)) used)
+    (c .key-in .ensures ∙ key-of (a .file .now) (a .bucket) k used)
 
 same-length : tie.Need-same-length Inv-loop μ-loop
 same-length c = search needs

@@ -1,12 +1,11 @@
 -- `scan::put_matches`: the selected keys of the buckets that are left, written behind those that stand there, make the
 -- whole write.
 use borrow.Author.Needs.{needs}
-use Prim.Native.Nat.{ℕ, _-_, _^_, _<_}
-use mathlib.Core.Path.{sym, subst}
-use native.Mathlib.Omega.{arith}
-use lib.ListN.{length, getD}
-use Rattle.scan.specs.Scan.{keysIn}
-use Rattle.scan.specs.Scan.Fill.{Written, write-none, write-sound, write-room, write-more, write-done}
+use Prim.Native.Nat.{_-_}
+use lib.ListN.{length}
+use Rattle.scan.specs.Scan.Fill.{fitting-here, Written, write-none, write-sound, write-room, write-more}
+use Rattle.scan.specs.Scan.Fill.{write-done}
+use Rattle.scan.specs.Scan.Way.{way-exists}
 use Rattle.scan.proofs.put_matches.Statement.{statement}
 use Rattle.scan.proofs.put_matches.Tie as tie
 
@@ -17,10 +16,7 @@ abbrev μ-loop : tie.MeasureT-loop
 μ-loop file header way bits matches₀ filled₀ k₀ matches filled k = length way - k
 
 loop-holds : tie.Need-loop-holds Inv-loop μ-loop
-loop-holds c =
-    let d = c .before .before .before .before in
-    let a = d .args in
-    write-none (a .file .now) (a .way .now) (a .bits .now) (a .matches .now) (d .pre .2) (d .pre .4)
+loop-holds c = search write-none
 
 mul-number : tie.Need-mul-number Inv-loop μ-loop
 mul-number c = search needs
@@ -38,19 +34,13 @@ shared-slice-read-put-bucket : tie.Need-shared-slice-read-put-bucket Inv-loop μ
 shared-slice-read-put-bucket c = search needs
 
 put-bucket-requires : tie.Need-put-bucket-requires Inv-loop μ-loop
-put-bucket-requires c κs =
-    let d = c .before .before .before .before .before .before .before .before .before .before in
-    let a = d .args in
-    let l = c .before .before .before .before .before .loop in
-    let n = c .before .before .number in
-    let more = c .before .before .before .before .loop-test .taken in (
-      d .pre .0,
-      omega (arith, d .pre .1 .exist (l .k) more, n .ensures),
-      write-sound (l .inv) (n .result) (n .ensures) more,
-      subst (λ (b : ℕ). getD (a .bits .now) (l .k) 0 < 2 ^ length (keysIn (a .file .now) b)) (sym (n .ensures))
-          (d .pre .3 .each (l .k) more),
-      write-room (l .inv) (n .result) (n .ensures) more (omega (arith, more, d .pre .3 .long)),
-    )
+put-bucket-requires c κs = (
+  search needs,
+  search way-exists,
+  search write-sound,
+  search fitting-here,
+  search write-room,
+)
 
 add-k : tie.Need-add-k Inv-loop μ-loop
 add-k c = search needs
@@ -59,17 +49,13 @@ loop-less : tie.Need-loop-less Inv-loop μ-loop
 loop-less c = search needs
 
 loop-again : tie.Need-loop-again Inv-loop μ-loop
-loop-again c =
-    let n = c .before .before .before .before .before .number in
-    let p = c .before .before .put-bucket in
-    let more = c .before .before .before .before .before .before .before .loop-test .taken in
-    write-more (c .before .before .before .before .before .before .before .before .loop .inv) (n .result) (n .ensures) more (omega (arith, more, c .before .before .before .before .before .before .before .before .before .before .before .before .before .pre .3 .long)) (p .result) (p .last .1 .1 .1 .1 .0) (p .ensures .0) (p .ensures .1)
+loop-again c = search write-more
 
 same-length : tie.Need-same-length Inv-loop μ-loop
 same-length c = c .before .loop .inv .full
 
 returns : tie.Need-returns Inv-loop μ-loop
-returns c = write-done (c .before .loop .inv) (c .loop-test .left)
+returns c = search write-done
 
 pub put-matches-spec : {M : Type 1} → statement M
 put-matches-spec =

@@ -1,9 +1,6 @@
 -- `scan::scan` refuses 2 to 6 and 11, and scans along the visit order of the client's image.
-use mathlib.Core.Path.{sym, ap, _∙_}
 use native.Mathlib.Omega.{arith}
-use Rattle.scan.specs.Scan.{visitsOf}
-use Rattle.scan.specs.Scan.{leaving}
-use Rattle.scan.specs.Scan.Replied.{scan-early, scan-short, scan-long}
+use Rattle.scan.specs.Scan.Replied.{scan-early, opened-short, opened-long}
 use Rattle.scan.specs.Scan.Way.{starting, starting-buckets, starting-few}
 use borrow.Author.Needs.{needs}
 use Rattle.scan.proofs.scan.Statement.{statement}
@@ -19,12 +16,7 @@ refused-scan-requires : tie.Need-refused-scan-requires
 refused-scan-requires c κs = search needs
 
 returns : tie.Need-returns
-returns c =
-    let a = c .before .before .before .before .before .before .before .before .before .args in
-    let o = c .before .before .before .before .«open» in
-    scan-early (a .file .now) (a .table .now) (a .client) (a .lift) (a .visits .now) (a .matches .now)
-    (c .refused-scan .result) (o .result .reply) (c .refused-scan .ensures) (o .ensures .0)
-    (c .before .before .if1 .taken)
+returns c = search scan-early
 
 buckets-requires : tie.Need-buckets-requires
 buckets-requires c κs = c .before .before .before .before .«open» .ensures .1
@@ -38,13 +30,11 @@ refused-scan-requires-2 c κs = search needs
 
 returns-2 : tie.Need-returns-2
 returns-2 c =
-    let a = c .before .before .before .before .before .before .before .before .before .before .before .before .args in
-    let o = c .before .before .before .before .before .before .before .«open» in
-    let none = c .before .before .before .before .before .if1 .left in
-    let b = c .before .before .buckets in
-    scan-short (a .file .now) (a .table .now) (a .client) (a .lift) (a .visits .now) (a .matches .now)
-    (sym (o .ensures .0) ∙ none) (c .refused-scan2 .result) (c .refused-scan2 .ensures)
-    (omega (arith, c .before .if2 .taken, starting-buckets (starting (o .ensures .1 none)) (b .result) (b .ensures)))
+    let count = c .before .before in
+    let passed = count .before .before .before in
+    let opened = passed .before .before .«open» in
+    opened-short (opened .ensures .0) (opened .ensures .1) (passed .if1 .left) (count .buckets .ensures) _ _ _
+    (c .before .if2 .taken) (c .refused-scan2 .ensures)
 
 slice-aggregate-follow : tie.Need-slice-aggregate-follow
 slice-aggregate-follow c = search needs
@@ -54,17 +44,15 @@ slice-aggregate-follow-2 c = search needs
 
 follow-requires : tie.Need-follow-requires
 follow-requires c κs =
-    let given = starting
-    (c .before .before .before .before .before .before .before .before .before .before .before .«open» .ensures .1
-    (c .before .before .before .before .before .before .before .before .before .if1 .left)) in
-    let b = c .before .before .before .before .before .before .buckets in
-    let all = starting-buckets given (b .result) (b .ensures) in (
+    let few = c .before .before .before .before in
+    let count = few .before .before in
+    let passed = count .before .before .before in
+    let given = starting (passed .before .before .«open» .ensures .1 (passed .if1 .left)) in
+    let all = starting-buckets given (count .buckets .result) (count .buckets .ensures) in (
       given,
-      omega (arith, c .before .before .before .before .if3 .taken, all, starting-few given),
-      omega
-          (arith, c .before .before .before .before .if3 .taken, all, starting-few given),
-      omega
-          (arith, c .before .before .before .before .before .if2 .left, all),
+      omega (arith, few .if3 .taken, all, starting-few given),
+      omega (arith, few .if3 .taken, all, starting-few given),
+      omega (arith, few .before .if2 .left, all),
     )
 
 same-length : tie.Need-same-length
@@ -74,22 +62,7 @@ same-length-2 : tie.Need-same-length-2
 same-length-2 c = search needs
 
 returns-3 : tie.Need-returns-3
-returns-3 c =
-    let a = c .before .before .before .before .before .before .before .before .before .before .before .before .before .before .before .before .before .before .before .before .before .before .before .args in
-    let o = c .before .before .before .before .before .before .before .before .before .before .before .before .before .before .before .before .before .before .«open» in
-    let none = c .before .before .before .before .before .before .before .before .before .before .before .before .before .before .before .before .if1 .left in
-    let b = c .before .before .before .before .before .before .before .before .before .before .before .before .before .buckets in
-    let f = c .before .before .before .before .before .before .follow in
-    scan-long (a .file .now) (a .table .now) (a .client) (a .lift) (a .visits .now) (a .matches .now)
-    (sym (o .ensures .0) ∙ none)
-    (omega (
-      arith,
-      c .before .before .before .before .before .before .before .before .before .before .before .before .if2 .left,
-      starting-buckets (starting (o .ensures .1 none)) (b .result) (b .ensures),
-    ))
-    (leaving (f .result) (f .last .1 .1 .1 .1 .1 .1 .0) (f .last .1 .1 .1 .1 .1 .1 .1 .0))
-    (visitsOf (a .file .now) (o .result .image)) (f .ensures)
-    (ap (visitsOf (a .file .now)) (o .ensures .1 none .is))
+returns-3 c = search opened-long
 
 slice-aggregate-follow-3 : tie.Need-slice-aggregate-follow-3
 slice-aggregate-follow-3 c = search needs
@@ -99,17 +72,15 @@ slice-aggregate-follow-4 c = search needs
 
 follow-requires-2 : tie.Need-follow-requires-2
 follow-requires-2 c κs =
-    let given = starting
-    (c .before .before .before .before .before .before .before .before .before .before .before .«open» .ensures .1
-    (c .before .before .before .before .before .before .before .before .before .if1 .left)) in
-    let b = c .before .before .before .before .before .before .buckets in
-    let all = starting-buckets given (b .result) (b .ensures) in (
+    let few = c .before .before .before .before in
+    let count = few .before .before in
+    let passed = count .before .before .before in
+    let given = starting (passed .before .before .«open» .ensures .1 (passed .if1 .left)) in
+    let all = starting-buckets given (count .buckets .result) (count .buckets .ensures) in (
       given,
-      omega (arith, c .before .before .before .before .if3 .left, all, starting-few given),
-      omega
-          (arith, c .before .before .before .before .if3 .left, all, starting-few given),
-      omega
-          (arith, c .before .before .before .before .before .if2 .left, all),
+      omega (arith, few .if3 .left, all, starting-few given),
+      omega (arith, few .if3 .left, all, starting-few given),
+      omega (arith, few .before .if2 .left, all),
     )
 
 same-length-3 : tie.Need-same-length-3
@@ -119,22 +90,7 @@ same-length-4 : tie.Need-same-length-4
 same-length-4 c = search needs
 
 returns-4 : tie.Need-returns-4
-returns-4 c =
-    let a = c .before .before .before .before .before .before .before .before .before .before .before .before .before .before .before .before .before .before .before .before .before .before .before .args in
-    let o = c .before .before .before .before .before .before .before .before .before .before .before .before .before .before .before .before .before .before .«open» in
-    let none = c .before .before .before .before .before .before .before .before .before .before .before .before .before .before .before .before .if1 .left in
-    let b = c .before .before .before .before .before .before .before .before .before .before .before .before .before .buckets in
-    let f = c .before .before .before .before .before .before .follow2 in
-    scan-long (a .file .now) (a .table .now) (a .client) (a .lift) (a .visits .now) (a .matches .now)
-    (sym (o .ensures .0) ∙ none)
-    (omega (
-      arith,
-      c .before .before .before .before .before .before .before .before .before .before .before .before .if2 .left,
-      starting-buckets (starting (o .ensures .1 none)) (b .result) (b .ensures),
-    ))
-    (leaving (f .result) (f .last .1 .1 .1 .1 .1 .1 .0) (f .last .1 .1 .1 .1 .1 .1 .1 .0))
-    (visitsOf (a .file .now) (o .result .image)) (f .ensures)
-    (ap (visitsOf (a .file .now)) (o .ensures .1 none .is))
+returns-4 c = search opened-long
 
 pub scan-spec : {M : Type 1} → statement M
 scan-spec =

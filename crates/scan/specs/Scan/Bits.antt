@@ -97,14 +97,15 @@ module _ {lift : ℕ} {keys : List ℕ} {k bits : ℕ} (so : Tested lift keys k 
   unfolding bitsOf
   test-more some bit e = record {
     within = omega (arith, so .within);
-    is = sym
-        (ap (bitsOf lift)
-        (rest-first keys (k - 1) (omega (arith, so .within)) ∙ ap (λ (n : ℕ). getD keys (k - 1) 0 ∷ drop n keys) back)
-        ∙ sum);
+    is = sym (ap (bitsOf lift) onto ∙ sum);
   }
     where
       back : k - 1 + 1 ≡ k
       back = omega arith
+
+      onto : drop (k - 1) keys ≡ getD keys (k - 1) 0 ∷ drop k keys
+      onto = rest-first keys (k - 1) (omega (arith, so .within))
+          ∙ ap (λ (n : ℕ). getD keys (k - 1) 0 ∷ drop n keys) back
 
       sum : cond (ofLift lift (getD keys (k - 1) 0)) 1 0 + 2 * bitsOf lift (drop k keys) ≡ bits * 2 + bit
       sum = omega (arith, so .is, e)

@@ -59,12 +59,14 @@ module _ {keys : List ℕ} {bits from : ℕ} {old : List ℕ} {left slot filled 
   pub fill-done : left ≡ 0 → (filled ≡ from + length (selected bits keys)) × (now ≡ edit from (selected bits keys) old)
   fill-done end = (
     omega (arith, so .count, ap length nothing),
-    sym
-        (ap (λ (l : List ℕ). edit filled l now) nothing ∙ edit-nothing filled now) ∙ so .is,
+    sym kept ∙ so .is,
   )
     where
       nothing : selected left (drop slot keys) ≡ []
       nothing = ap (λ (b : ℕ). selected b (drop slot keys)) end ∙ select-none (drop slot keys)
+
+      kept : edit filled (selected left (drop slot keys)) now ≡ now
+      kept = ap (λ (l : List ℕ). edit filled l now) nothing ∙ edit-nothing filled now
 
   module _ (short : length keys ≤ mostSlots) (some : left ≡ 0 → ⊥) where
     abbrev zeros : ℕ
@@ -113,6 +115,10 @@ pub record Fitting (file way bits : List ℕ) : Type 0 where
   pub long : length way ≤ length bits
   pub each : (k : ℕ) → k < length way → getD bits k 0 < 2 ^ length (keysIn file (getD way k 0))
 
+pub fitting-here : {file way bits : List ℕ} → Fitting file way bits → {a : ℕ} (k : ℕ) → a ≡ getD way k 0
+    → k < length way → getD bits k 0 < 2 ^ length (keysIn file a)
+fitting-here fit k here more = rw here (fit .each k more)
+
 pub noted-fits : (file : List ℕ) (lift : ℕ) (way bits : List ℕ) → length way ≤ length bits
     → Noted file lift way bits (length way) → Fitting file way bits
 noted-fits file lift way bits long so =
@@ -133,12 +139,13 @@ write-none file way bits old sound room =
 
 module _ {file way bits old : List ℕ} {k filled : ℕ} {now : List ℕ} (so : Written file way bits old k filled now) where
   pub write-done : length way ≤ k → now ≡ edit 0 (selectedOn file way bits) old
-  write-done end = sym
-      (ap (λ (l : List ℕ). edit filled l now)
-      (ap (λ (l : List ℕ). selectedOn file l (drop k bits)) (rest-none way k end) ∙ selected-none file (drop k bits))
-      ∙ edit-nothing filled now) ∙ so .is
+  write-done end = sym (ap (λ (l : List ℕ). edit filled l now) nothing ∙ edit-nothing filled now) ∙ so .is
+    where
+      nothing : selectedOn file (drop k way) (drop k bits) ≡ []
+      nothing = ap (λ (l : List ℕ). selectedOn file l (drop k bits)) (rest-none way k end)
+          ∙ selected-none file (drop k bits)
 
-  module _ (a : ℕ) (here : a ≡ getD way k 0) (more : k < length way) where
+  module _ {a : ℕ} (here : a ≡ getD way k 0) (more : k < length way) where
     onto : drop k way ≡ a ∷ drop (k + 1) way
     onto = rest-first way k more ∙ ap (λ (b : ℕ). b ∷ drop (k + 1) way) (sym here)
 
@@ -146,7 +153,7 @@ module _ {file way bits old : List ℕ} {k filled : ℕ} {now : List ℕ} (so : 
     write-sound = every-first (bucketSoundIn file) a (drop (k + 1) way)
         (ap (every (bucketSoundIn file)) (sym onto) ∙ so .sound)
 
-    module _ (long : k < length bits) where
+    module _ (fit : Fitting file way bits) where
       abbrev mine : List ℕ
       mine = selected (getD bits k 0) (keysIn file a)
 
@@ -154,7 +161,7 @@ module _ {file way bits old : List ℕ} {k filled : ℕ} {now : List ℕ} (so : 
       others = selectedOn file (drop (k + 1) way) (drop (k + 1) bits)
 
       both : selectedOn file (drop k way) (drop k bits) ≡ mine ++ others
-      both = ap₂ (selectedOn file) onto (rest-first bits k long)
+      both = ap₂ (selectedOn file) onto (rest-first bits k (omega (arith, fit .long)))
           ∙ selected-first file a (drop (k + 1) way) (getD bits k 0) (drop (k + 1) bits)
 
       lengths : length (selectedOn file (drop k way) (drop k bits)) ≡ length mine + length others
@@ -163,10 +170,11 @@ module _ {file way bits old : List ℕ} {k filled : ℕ} {now : List ℕ} (so : 
       pub write-room : filled + length (selected (getD bits k 0) (keysIn file a)) ≤ length now
       write-room = omega (arith, so .room, lengths)
 
-      pub write-more : (f : ℕ) (then : List ℕ) → f ≡ filled + length (selected (getD bits k 0) (keysIn file a))
-          → then ≡ edit filled (selected (getD bits k 0) (keysIn file a)) now
-          → Written file way bits old (k + 1) f then
-      write-more f then ef et = record {
+      pub write-more : {end : ℕ} {then : List ℕ}
+          → (end ≡ filled + length (selected (getD bits k 0) (keysIn file a)))
+          × (then ≡ edit filled (selected (getD bits k 0) (keysIn file a)) now)
+          → Written file way bits old (k + 1) end then
+      write-more {end} {then} (ef, et) = record {
         within = omega arith;
         full = kept ∙ so .full;
         sound = sym (every-next (bucketSoundIn file) a (drop (k + 1) way) write-sound)

@@ -25,9 +25,10 @@ use Rattle.file.specs.File.Judge.{existing}
 use Rattle.file.specs.File.Keeping.{sound-bucket}
 use Rattle.route.specs.Way.{early, held}
 use Rattle.route.specs.Way.Keeping.{Passed, passed, formed, believes, near}
-use Rattle.scan.specs.Scan.{Scanned, leaving, ofLift, keysIn, matchesOn, visitsOf, firstUnsound, scan}
+use Rattle.scan.specs.Scan.{Scanned, leaving, ofLift, keysIn, matchesOn, visitsOf, firstUnsound, refusal}
+use Rattle.scan.specs.Scan.{collected, scan}
 use Rattle.scan.specs.Scan.Found.{own, once, elsewhere, held-times, other-times, visited}
-use Rattle.scan.specs.Scan.Replied.{refusal, acceptance, collected-unsound, collected-short, collected-done}
+use Rattle.scan.specs.Scan.Replied.{acceptance, collected-unsound, collected-short, collected-done}
 use Rattle.scan.specs.Scan.Replied.{scan-early, scan-short, scan-long}
 use Rattle.scan.specs.Scan.Way.{way-length, way-once, way-only}
 
@@ -52,6 +53,7 @@ module _ (file table : List ℕ) (client lift : ℕ) (visits matches : List ℕ)
   abbrev outcome : Scanned
   outcome = scan file table client lift visits matches
 
+  -- refused by a reply that is not 0, with a bucket's number for 7 alone
   pub record Refused : Type 0 where
     pub number : ℕ
     pub bucket : ℕ
@@ -59,8 +61,10 @@ module _ (file table : List ℕ) (client lift : ℕ) (visits matches : List ℕ)
     pub none : (number ≡ 7 → ⊥) → bucket ≡ noBucket
     pub is : outcome ≡ leaving (refusal number bucket) visits matches
 
+  -- accepted: 2 to 6 and 11 are passed, every bucket on the way is sound, and both lists are written
   pub record Collected : Type 0 where
     pub passes : Passed file table client
+    pub long : bucketsOf file ≤ length visits
     pub sound : every (bucketSoundIn file) way ≡ true
     pub is : outcome
         ≡ leaving (acceptance (length way) (length keys)) (edit 0 way visits) (edit 0 keys matches)
@@ -71,36 +75,36 @@ module _ (file table : List ℕ) (client lift : ℕ) (visits matches : List ℕ)
 
   pub scan-cases : Refused ⊎ Collected
   scan-cases = ⊎-elim opened
-      (λ some. refused-with (reply (early file table client) 0) noBucket some (λ h. refl)
-      (scan-early file table client lift visits matches (refusal (reply (early file table client) 0) noBucket)
-      (reply (early file table client) 0) refl refl some))
-      (same (reply (early file table client) 0) 0)
+      (λ some. refused-with r noBucket some (λ h. refl)
+      (scan-early file table client lift visits matches refl refl some))
+      (same r 0)
     where
-      opened : reply (early file table client) 0 ≡ 0 → Refused ⊎ Collected
+      r : ℕ
+      r = reply (early file table client) 0
+
+      opened : r ≡ 0 → Refused ⊎ Collected
       opened zero = ⊎-elim
           (λ short. refused-with 11 noBucket (λ h. omega arith) (λ h. refl)
-          (scan-short file table client lift visits matches zero (refusal 11 noBucket) refl short))
+          (scan-short file table client lift visits matches zero refl short))
           (λ long. judged long (every (bucketSoundIn file) way) refl)
           (below (length visits) (bucketsOf file))
         where
+          along : bucketsOf file ≤ length visits → {o : Scanned} → o ≡ collected file lift way visits matches
+              → o ≡ outcome
+          along long e = scan-long file table client lift visits matches zero long (imageOf table client) e refl
+
           judged : bucketsOf file ≤ length visits → (b : Bool) → every (bucketSoundIn file) way ≡ b
               → Refused ⊎ Collected
           judged long false bad = refused-with 7 (firstUnsound file way) (λ h. omega arith) (λ h. absurd (h refl))
-              (scan-long file table client lift visits matches zero long
-              (leaving (refusal 7 (firstUnsound file way)) visits matches) way
-              (collected-unsound file lift way visits matches (refusal 7 (firstUnsound file way))
-              (firstUnsound file way) refl bad refl) refl)
+              (along long (collected-unsound file lift way visits matches refl bad refl))
           judged long true fine = ⊎-elim
               (λ short. refused-with 12 noBucket (λ h. omega arith) (λ h. refl)
-              (scan-long file table client lift visits matches zero long (leaving (refusal 12 noBucket) visits matches)
-              way
-              (collected-short file lift way visits matches fine (refusal 12 noBucket) refl short) refl))
+              (along long (collected-short file lift way visits matches fine refl short)))
               (λ room. inr (record {
                 passes = passed file table client zero;
+                long = long;
                 sound = fine;
-                is = sym (scan-long file table client lift visits matches zero long _ way
-                    (collected-done file lift way visits matches fine room (length keys) (edit 0 way visits)
-                    (edit 0 keys matches) refl refl refl) refl);
+                is = sym (along long (collected-done file lift way visits matches fine room refl refl refl));
               }))
               (below (length matches) (length keys))
 
@@ -149,6 +153,13 @@ module _ (file table : List ℕ) (client lift : ℕ) (visits matches : List ℕ)
         ≤ highest firstBuckets (stateOf file) - imageOf table client .level
     scan-rounds = rounds firstBuckets (omega arith) (stateOf file) (formed file table client passes)
         (imageOf table client) (believes file table client passes) (near file table client passes)
+
+  -- a scan answers no more visits than its list has room for
+  pub visits-fit : outcome .visits ≤ length visits
+  visits-fit = ⊎-elim
+      (λ r. omega (arith, ap (λ (o : Scanned). o .visits) (r .is)))
+      (λ a. omega (arith, ap (λ (o : Scanned). o .visits) (a .is), visits-length (a .passes), a .long))
+      scan-cases
 
   -- ---- an accepted scan
 
@@ -220,32 +231,3 @@ module _ (file table : List ℕ) (client lift : ℕ) (visits matches : List ℕ)
       pub scan-matches-never : ((a : ℕ) → a < bucketsOf file → times key (keysIn file a) ≡ 0)
           → times key (take (outcome .matches) (outcome .matchList)) ≡ 0
       scan-matches-never none = in-own ∙ none (own file key) exists
-
--- a scan answers no more visits than its list has room for
-pub visits-fit : (file table : List ℕ) (client lift : ℕ) (visits matches : List ℕ)
-    → scan file table client lift visits matches .visits ≤ length visits
-visits-fit file table client lift visits matches = ⊎-elim opened
-    (λ some. omega (
-      arith,
-      none
-          (scan-early file table client lift visits matches (refusal (reply (early file table client) 0) noBucket)
-          (reply (early file table client) 0) refl refl some),
-    ))
-    (same (reply (early file table client) 0) 0)
-  where
-    none : {r a : ℕ} → leaving (refusal r a) visits matches ≡ scan file table client lift visits matches
-        → 0 ≡ scan file table client lift visits matches .visits
-    none e = ap (λ (o : Scanned). o .visits) e
-
-    long : bucketsOf file ≤ length visits → scan file table client lift visits matches .visits ≤ length visits
-    long room = ⊎-elim
-        (λ done. omega (arith, scan-visits-count file table client lift visits matches done))
-        (λ other. omega (arith, scan-refused file table client lift visits matches other .0))
-        (same (scan file table client lift visits matches .answer) 0)
-
-    opened : reply (early file table client) 0 ≡ 0 → scan file table client lift visits matches .visits ≤ length visits
-    opened zero = ⊎-elim
-        (λ short. omega
-        (arith, none (scan-short file table client lift visits matches zero (refusal 11 noBucket) refl short)))
-        (λ room. long room)
-        (below (length visits) (bucketsOf file))

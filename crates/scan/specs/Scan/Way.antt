@@ -35,6 +35,10 @@ pub record Way (file way : List ℕ) : Type 0 where
   pub exist : (k : ℕ) → k < length way → getD way k 0 < bucketsOf file
   pub few : length way ≤ mostBuckets
 
+pub way-exists : {file way : List ℕ} → Way file way → {a : ℕ} (k : ℕ) → a ≡ getD way k 0 → k < length way
+    → a < bucketsOf file
+way-exists along k here more = omega (arith, along .exist k more)
+
 -- an element of a list stands there
 pub times-at : (xs : List ℕ) (k : ℕ) → k < length xs → 0 < times (getD xs k 0) xs
 times-at [] k h = absurd (omega arith)
@@ -106,6 +110,14 @@ module _ {file : List ℕ} {header : Header} {image : Image} (given : Starting f
     few = omega (arith, starting-buckets (buckets firstBuckets (header .state)) refl, starting-few);
   }
 
+  pub starting-room : (room : ℕ) → bucketsOf file ≤ room → buckets firstBuckets (header .state) ≤ room
+  starting-room room fits = omega (arith, starting-buckets (buckets firstBuckets (header .state)) refl)
+
+  -- as many of a list of the same length
+  pub starting-prefix : (old queue : List ℕ) {n : ℕ} → n ≡ buckets firstBuckets (header .state)
+      → bucketsOf file ≤ length old → length queue ≡ length old → n ≤ length queue
+  starting-prefix old queue {n} en fits same = omega (arith, starting-buckets n en)
+
   -- the list that was filled is the visit order
   module _ (queue : List ℕ) (n : ℕ) (en : n ≡ buckets firstBuckets (header .state))
       (filled : take (buckets firstBuckets (header .state)) queue ≡ visits firstBuckets (header .state) image) where
@@ -119,4 +131,12 @@ module _ {file : List ℕ} {header : Header} {image : Image} (given : Starting f
         (visit-way file (given .known .sound) image (given .formed) (given .behind))
 
     pub starting-length : length (take n queue) ≡ bucketsOf file
-    starting-length = ap length starting-visits ∙ way-length file (given .known .sound) image (given .formed) (given .behind)
+    starting-length = ap length starting-visits
+        ∙ way-length file (given .known .sound) image (given .formed) (given .behind)
+
+    -- as long as it was cut
+    pub starting-cut : n ≡ length (take n queue)
+    starting-cut = starting-buckets n en ∙ sym starting-length
+
+    pub starting-fits : (room : ℕ) → bucketsOf file ≤ room → length (take n queue) ≤ room
+    starting-fits room fits = omega (arith, starting-length)

@@ -29,11 +29,7 @@ same-length-3 : tie.Need-same-length-3
 same-length-3 c = search needs
 
 returns : tie.Need-returns
-returns c =
-    let i = c .before .before .before .before .before .before .before .before .before .before in
-    let a = i .before .before .before .before .before .before .before .before .args in
-    insert-done (a .file .now) (a .table .now) (a .client) (a .key) _ (i .insert .ensures)
-    (c .before .before .put-ride .ensures)
+returns c = search insert-done
 
 pub run-insert-spec : {M : Type 1} → statement M
 run-insert-spec =

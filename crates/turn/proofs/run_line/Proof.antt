@@ -1,7 +1,6 @@
 -- `turn::run_line` goes by the command that the line is.
-use mathlib.Core.Path.{_∙_, sym}
-use native.Mathlib.Omega.{arith}
-use Rattle.turn.specs.Session.Laws.{unknown-done, line-room, line-done}
+use Rattle.turn.specs.Session.Laws.{split-room, insert-room, search-room, scan-room, line-done, line-split}
+use Rattle.turn.specs.Session.Laws.{line-unknown}
 use borrow.Author.Needs.{needs}
 use Rattle.turn.proofs.run_line.Statement.{statement}
 use Rattle.turn.proofs.run_line.Tie as tie
@@ -13,49 +12,25 @@ enum-told : tie.Need-enum-told
 enum-told c = search needs
 
 run-split-requires : tie.Need-run-split-requires
-run-split-requires c κs =
-    let r = c .before .before .before .before in
-    let a = r .before .before .before .before .before .args in
-    omega (arith, line-room (a .line .now) _ (sym (r .read-command .ensures) ∙ c .before .before .enum-told .given .1))
+run-split-requires c κs = search split-room
 
 enum-known-command : tie.Need-enum-known-command
 enum-known-command c = search needs
 
 run-insert-requires : tie.Need-run-insert-requires
-run-insert-requires c κs =
-    let r = c .before .before .before .before .before .before in
-    let a = r .before .before .before .before .before .args in
-    omega (
-      arith,
-      line-room (a .line .now) _
-          (sym (r .read-command .ensures) ∙ c .before .before .before .before .command .given .1),
-    )
+run-insert-requires c κs = search insert-room
 
 enum-known-command-2 : tie.Need-enum-known-command-2
 enum-known-command-2 c = search needs
 
 run-search-requires : tie.Need-run-search-requires
-run-search-requires c κs =
-    let r = c .before .before .before .before .before .before in
-    let a = r .before .before .before .before .before .args in
-    omega (
-      arith,
-      line-room (a .line .now) _
-          (sym (r .read-command .ensures) ∙ c .before .before .before .before .command2 .given .1),
-    )
+run-search-requires c κs = search search-room
 
 enum-known-command-3 : tie.Need-enum-known-command-3
 enum-known-command-3 c = search needs
 
 run-scan-requires : tie.Need-run-scan-requires
-run-scan-requires c κs =
-    let r = c .before .before .before .before .before .before in
-    let a = r .before .before .before .before .before .args in
-    omega (
-      arith,
-      line-room (a .line .now) _
-          (sym (r .read-command .ensures) ∙ c .before .before .before .before .command3 .given .1),
-    )
+run-scan-requires c κs = search scan-room
 
 enum-told-2 : tie.Need-enum-told-2
 enum-told-2 c = search needs
@@ -70,13 +45,7 @@ same-length-2 : tie.Need-same-length-2
 same-length-2 c = search needs
 
 returns : tie.Need-returns
-returns c =
-    let r = c .before .before .before .before .before .before .before .before .before in
-    let a = r .before .before .before .before .before .args in
-    line-done (a .file .now) (a .table .now) (a .line .now) _
-    (sym (r .read-command .ensures)
-    ∙ c .before .before .before .before .before .before .before .enum-told .given .1)
-    (c .before .before .before .before .run-split .ensures (a .table .now))
+returns c = search line-split
 
 same-length-3 : tie.Need-same-length-3
 same-length-3 c = search needs
@@ -88,13 +57,7 @@ same-length-5 : tie.Need-same-length-5
 same-length-5 c = search needs
 
 returns-2 : tie.Need-returns-2
-returns-2 c =
-    let r = c .before .before .before .before .before .before .before .before .before .before .before .before .before in
-    let a = r .before .before .before .before .before .args in
-    line-done (a .file .now) (a .table .now) (a .line .now) _
-    (sym (r .read-command .ensures)
-    ∙ c .before .before .before .before .before .before .before .before .before .before .before .command .given .1)
-    (c .before .before .before .before .before .before .run-insert .ensures)
+returns-2 c = search line-done
 
 same-length-6 : tie.Need-same-length-6
 same-length-6 c = search needs
@@ -106,13 +69,7 @@ same-length-8 : tie.Need-same-length-8
 same-length-8 c = search needs
 
 returns-3 : tie.Need-returns-3
-returns-3 c =
-    let r = c .before .before .before .before .before .before .before .before .before .before .before in
-    let a = r .before .before .before .before .before .args in
-    line-done (a .file .now) (a .table .now) (a .line .now) _
-    (sym (r .read-command .ensures)
-    ∙ c .before .before .before .before .before .before .before .before .before .command2 .given .1)
-    (c .before .before .before .before .run-search .ensures)
+returns-3 c = search line-done
 
 same-length-9 : tie.Need-same-length-9
 same-length-9 c = search needs
@@ -124,23 +81,13 @@ same-length-11 : tie.Need-same-length-11
 same-length-11 c = search needs
 
 returns-4 : tie.Need-returns-4
-returns-4 c =
-    let r = c .before .before .before .before .before .before .before .before .before in
-    let a = r .before .before .before .before .before .args in
-    line-done (a .file .now) (a .table .now) (a .line .now) _
-    (sym (r .read-command .ensures) ∙ c .before .before .before .before .before .before .before .command3 .given .1)
-    (c .before .before .run-scan .ensures)
+returns-4 c = search line-done
 
 same-length-12 : tie.Need-same-length-12
 same-length-12 c = search needs
 
 returns-5 : tie.Need-returns-5
-returns-5 c =
-    let r = c .before .before .before .before .before .before in
-    let a = r .before .before .before .before .before .args in
-    line-done (a .file .now) (a .table .now) (a .line .now) _
-    (sym (r .read-command .ensures) ∙ c .before .before .before .before .enum-told2 .given .1)
-    (unknown-done (a .file .now) (a .table .now) (c .before .before .put-unknown .ensures))
+returns-5 c = search line-unknown
 
 pub run-line-spec : {M : Type 1} → statement M
 run-line-spec =

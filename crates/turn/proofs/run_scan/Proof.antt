@@ -1,8 +1,5 @@
 -- `turn::run_scan`: what scan told, and the line of it; its visits fit the list.
-use mathlib.Core.Path.{sym}
-use native.Mathlib.Omega.{arith}
-use lib.Seq.{length-take-le}
-use Rattle.turn.specs.Session.Laws.{scan-done, visits-few}
+use Rattle.turn.specs.Session.Laws.{visits-few, visits-taken, visits-room, scan-done}
 use borrow.Author.Needs.{needs}
 use Rattle.turn.proofs.run_scan.Statement.{statement}
 use Rattle.turn.proofs.run_scan.Tie as tie
@@ -20,38 +17,19 @@ cast-count : tie.Need-cast-count
 cast-count c = search needs
 
 array-share-prefix-visits : tie.Need-array-share-prefix-visits
-array-share-prefix-visits c =
-    let s = c .before .before .before .before in
-    let a = s .before .before .before .before .before .before .args in
-    omega (arith, visits-few (a .file .now) (a .table .now) (a .client) (a .lift) _ (s .scan .ensures))
+array-share-prefix-visits c = search visits-few
 
 slice-aggregate-put-scan : tie.Need-slice-aggregate-put-scan
-slice-aggregate-put-scan c = sym
-    (length-take-le (c .before .before .before .before .before .scan .result .visits) _
-    (array-share-prefix-visits (c .before)))
+slice-aggregate-put-scan c = search visits-taken
 
 put-scan-requires : tie.Need-put-scan-requires
-put-scan-requires c κs =
-    let s = c .before .before .before .before .before in
-    let a = s .before .before .before .before .before .before .args in
-    omega (
-      arith,
-      slice-aggregate-put-scan c,
-      visits-few (a .file .now) (a .table .now) (a .client) (a .lift) _
-          (s .scan .ensures),
-    )
+put-scan-requires c κs = search visits-room
 
 same-length : tie.Need-same-length
 same-length c = search needs
 
 returns : tie.Need-returns
-returns c =
-    let s = c .before .before .before .before .before .before .before .before in
-    let a = s .before .before .before .before .before .before .args in
-    let few = visits-few (a .file .now) (a .table .now) (a .client) (a .lift) _ (s .scan .ensures) in
-    scan-done (a .file .now) (a .table .now) (a .client) (a .lift) _ _ (s .scan .ensures)
-    (omega (arith, few, slice-aggregate-put-scan (c .before .before .before)))
-    (c .before .before .put-scan .ensures)
+returns c = search scan-done
 
 pub run-scan-spec : {M : Type 1} → statement M
 run-scan-spec =

@@ -23,11 +23,7 @@ same-length-2 : tie.Need-same-length-2
 same-length-2 c = search needs
 
 returns : tie.Need-returns
-returns c =
-    let s = c .before .before .before .before .before .before .before .before in
-    let a = s .before .before .before .before .before .before .args in
-    search-done (a .file .now) (a .table .now) (a .client) (a .key) _ (s .search .ensures)
-    (c .before .before .put-ride .ensures)
+returns c = search search-done
 
 pub run-search-spec : {M : Type 1} → statement M
 run-search-spec =

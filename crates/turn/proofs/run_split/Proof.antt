@@ -17,9 +17,7 @@ same-length-2 : tie.Need-same-length-2
 same-length-2 c = search needs
 
 returns : tie.Need-returns
-returns c = λ table. split-done
-    (c .before .before .before .before .before .before .before .before .before .before .args .file .now) table _
-    (c .before .before .before .before .before .before .split .ensures) (c .before .before .put-split .ensures)
+returns c = λ table. search split-done
 
 pub run-split-spec : {M : Type 1} → statement M
 run-split-spec =

@@ -1,8 +1,4 @@
 -- `ridefile::session::run`: the file that create told, the table that four joins told, and the lines run on them.
-use mathlib.Core.List.{List}
-use mathlib.Core.Path.{subst}
-use Prim.Native.Nat.{ℕ}
-use Rattle.lines.specs.Lines.{Wrote}
 use Rattle.turn.specs.Session.Laws.{printed-is}
 use borrow.Author.Needs.{needs}
 use Rattle.ridefile.proofs.session.run.Statement.{statement}
@@ -51,18 +47,7 @@ same-length : tie.Need-same-length
 same-length c = search needs
 
 returns : tie.Need-returns
-returns c =
-    let l = c .before .before .before .before in
-    let four = l .before .before .before .before .before in
-    let three = four .before .before .before in
-    let two = three .before .before .before in
-    let one = two .before .before .before in
-    let made = one .before .before .before in
-    let a = made .before .before .before .before .args in
-    subst (λ (t : List ℕ). Wrote 0 t (a .out .now) (l .run-lines .last .1 .1 .1 .0) (l .run-lines .result))
-    (printed-is (a .input .now) _ _ _ _ _ (made .create .ensures) (one .join .ensures) (two .join2 .ensures)
-    (three .join3 .ensures) (four .join4 .ensures))
-    (l .run-lines .ensures)
+returns c = search printed-is
 
 pub run-spec : {M : Type 1} → statement M
 run-spec =

@@ -1,7 +1,6 @@
 -- `ridefile::session::run_lines` goes line by line: what is written so far, and what the rest prints, stays the whole.
 use Prim.Native.Nat.{_-_}
-use mathlib.Core.Path.{_≡_, refl, _∙_, sym}
-use native.Mathlib.Omega.{arith}
+use mathlib.Core.Path.{_≡_, refl}
 use borrow.Author.Needs.{needs}
 use lib.ListN.{length}
 use Rattle.turn.specs.Session.Laws.{Printing, printing-none, printing-more, printing-cut, printing-done}
@@ -37,11 +36,7 @@ same-length-3 : tie.Need-same-length-3 Inv-loop μ-loop
 same-length-3 c = search needs
 
 returns : tie.Need-returns Inv-loop μ-loop
-returns c =
-    let l = c .before .before .before .before .before .before .before in
-    printing-cut (l .loop .inv .0) (omega arith)
-    (sym (c .before .before .before .before .before .line-end .ensures .0)
-    ∙ c .before .before .before .before .if1 .taken) (c .before .before .put-unknown .ensures)
+returns c = search printing-cut
 
 sub-run-line : tie.Need-sub-run-line Inv-loop μ-loop
 sub-run-line c = search needs
@@ -62,16 +57,7 @@ loop-less : tie.Need-loop-less Inv-loop μ-loop
 loop-less c = search needs
 
 loop-again : tie.Need-loop-again Inv-loop μ-loop
-loop-again c =
-    let r = c .before .before .before .before .before .before in
-    let e = r .before .before .before .before .before .before in
-    let l = e .before .before in (
-      printing-more (l .loop .inv .0) (e .line-end .result) (e .line-end .ensures .0) (omega arith)
-          (r .run-line .ensures),
-      search needs,
-      search needs,
-      search needs,
-    )
+loop-again c = (search printing-more, search needs, search needs, search needs)
 
 same-length-4 : tie.Need-same-length-4 Inv-loop μ-loop
 same-length-4 c = search needs
@@ -83,7 +69,7 @@ same-length-6 : tie.Need-same-length-6 Inv-loop μ-loop
 same-length-6 c = search needs
 
 returns-2 : tie.Need-returns-2 Inv-loop μ-loop
-returns-2 c = printing-done (c .before .loop .inv .0) (omega arith)
+returns-2 c = search printing-done
 
 pub run-lines-spec : {M : Type 1} → statement M
 run-lines-spec =

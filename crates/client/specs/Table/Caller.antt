@@ -1,0 +1,104 @@
+-- A caller judged: its refusals by their cases, and what is known of one that is not refused.
+use Prim.Native.Nat.{ℕ, _+_, _*_, _≤_}
+use mathlib.Core.Path.{_≡_, refl, sym, ap, _∙_}
+use mathlib.Core.Bool.{Bool, true, false, cond, not}
+use mathlib.Core.List.{List}
+use native.Mathlib.Omega.{arith}
+use borrow.Author.Tests.{not-false}
+use lib.ListN.{length}
+use Rattle.address.specs.Limits.{firstBuckets, mostLevel}
+use Rattle.address.specs.declared.Image.{Image}
+use Rattle.address.specs.Room.{ImageRoom}
+use Rattle.address.specs.Rules.{Formed}
+use Rattle.address.specs.Rules.Hash.{span-is, span-mono}
+use Rattle.layout.specs.Replies.{Numbers, reply, reply-none, reply-is, reply-append, numbers-append}
+use Rattle.client.specs.Table.{imageOf, recordSound, tableRefusals, callerRefusals}
+use Rattle.client.specs.Table.Laws.{table-numbers, table-numbered, table-fits, record-image}
+use Rattle.client.specs.Table.Refusals.{Passes, passes-append, passes-split, passes-on, passes-back, refused-on}
+
+-- what is known of a caller that is not refused
+pub record Calling (table : List ℕ) (client : ℕ) (image : Image) : Type 0 where
+  pub there : 8 * client + 8 ≤ length table
+  pub is : image ≡ imageOf table client
+  pub low : image .level ≤ mostLevel
+  pub formed : Formed firstBuckets image
+  pub room : ImageRoom firstBuckets image
+
+-- a caller judged: its reply, and what is known where that is 0
+pub record Called (table : List ℕ) (client r : ℕ) (image : Image) : Type 0 where
+  pub is : r ≡ reply (callerRefusals table client) 0
+  pub calling : r ≡ 0 → Calling table client image
+
+module _ (table : List ℕ) (client : ℕ) where
+  -- its numbers are 2, 3 and 4
+  pub caller-numbers : (P : ℕ → Type 0) → P 2 → P 3 → P 4 → Numbers P (callerRefusals table client)
+  unfolding callerRefusals
+  caller-numbers P two three four = numbers-append P (tableRefusals table client) _
+      (table-numbers table client P two three) (four, tt)
+
+  pub caller-numbered : Numbers (λ n. n ≡ 0 → ⊥) (callerRefusals table client)
+  caller-numbered =
+      caller-numbers (λ n. n ≡ 0 → ⊥) (λ e. omega (arith, e)) (λ e. omega (arith, e)) (λ e. omega (arith, e))
+
+  -- a caller that is not refused has passed 2, 3 and 4
+  pub caller-passes : Passes (callerRefusals table client)
+      → (reply (tableRefusals table client) 0 ≡ 0) × (recordSound table client ≡ true)
+  unfolding callerRefusals
+  caller-passes all =
+      let (first, four) = passes-split (tableRefusals table client) _ all in
+      (passes-on (tableRefusals table client) first 0, not-false _ (four .0))
+
+  pub caller-passed : reply (tableRefusals table client) 0 ≡ 0 → recordSound table client ≡ true
+      → Passes (callerRefusals table client)
+  unfolding callerRefusals
+  caller-passed none sound = passes-append (tableRefusals table client) _
+      (passes-back (tableRefusals table client) (table-numbered table client) none) (ap not sound, tt)
+
+  -- the reply: the table's, or else 4
+  caller-reply : reply (callerRefusals table client) 0
+      ≡ reply (tableRefusals table client) (cond (not (recordSound table client)) 4 0)
+  unfolding callerRefusals
+  caller-reply = reply-append (tableRefusals table client) _ 0
+      ∙ ap (reply (tableRefusals table client))
+      (reply-is 4 _ _ 0 ∙ ap (cond (not (recordSound table client)) 4) (reply-none 0))
+
+  -- the judging function's way, test by test
+  module _ {r : ℕ} (er : r ≡ reply (tableRefusals table client) 0) where
+    pub caller-table : {x : ℕ} {image : Image} → (r ≡ 0 → ⊥) → x ≡ r → Called table client x image
+    caller-table some ex = record {
+      is = ex ∙ sym (caller-reply
+          ∙ refused-on (tableRefusals table client) (table-numbered table client) r (sym er) some _);
+      calling = λ e. absurd (some (sym ex ∙ e));
+    }
+
+    module _ {sound : Bool} (none : r ≡ 0) (es : sound ≡ recordSound table client) where
+      judged : {b : Bool} → not sound ≡ b → reply (callerRefusals table client) 0 ≡ cond b 4 0
+      judged h = caller-reply
+          ∙ passes-on (tableRefusals table client)
+          (passes-back (tableRefusals table client) (table-numbered table client) (sym er ∙ none)) _
+          ∙ ap (λ (b : Bool). cond b 4 0) (ap not (sym es) ∙ h)
+
+      pub caller-record : {x : ℕ} {image : Image} → not sound ≡ true → x ≡ 4 → Called table client x image
+      caller-record h ex = record { is = ex ∙ sym (judged h); calling = λ e. absurd (omega arith) }
+
+      pub caller-fine : {image : Image} → not sound ≡ false → image ≡ imageOf table client
+          → Called table client 0 image
+      caller-fine {image} h e = record { is = sym (judged h); calling = λ _. rw e known }
+        where
+          low : imageOf table client .level ≤ mostLevel
+          low = record-image table client (sym es ∙ not-false _ h) .0
+
+          formed : Formed firstBuckets (imageOf table client)
+          formed = record-image table client (sym es ∙ not-false _ h) .1
+
+          known : Calling table client (imageOf table client)
+          known = record {
+            there = table-fits table client er none;
+            is = refl;
+            low = low;
+            formed = formed;
+            room = record {
+              levels = record { some = omega arith; few = omega arith; low = omega (arith, low) };
+              near = omega (arith, formed, span-mono firstBuckets low, span-is firstBuckets mostLevel);
+            };
+          }
