@@ -12,25 +12,25 @@ use Rattle.address.specs.Rules.Earlier.{earlier-number, earlier-parents}
 use Rattle.layout.specs.Bytes.Tests.{and-left, and-right}
 
 -- What is known of the two that were reached from a bucket and another: they are visited in the same order.
-pub record Reached (believed bucket other one two : ℕ) : Type 0 where
+pub record Lockstep (believed bucket other one two : ℕ) : Type 0 where
   pub some : 0 < believed
   pub alike : earlier firstBuckets believed one two ≡ earlier firstBuckets believed bucket other
 
-pub reached-start : (believed bucket other : ℕ) → 0 < believed → Reached believed bucket other bucket other
-reached-start believed bucket other some = record { some = some; alike = refl }
+pub lockstep-start : (believed bucket other : ℕ) → 0 < believed → Lockstep believed bucket other bucket other
+lockstep-start believed bucket other some = record { some = some; alike = refl }
 
-module _ {believed bucket other one two : ℕ} (so : Reached believed bucket other one two) where
+module _ {believed bucket other one two : ℕ} (so : Lockstep believed bucket other one two) where
   -- neither is believed in
-  pub reached-past : (leb believed one && leb believed two) ≡ true → (believed ≤ one) × (believed ≤ two)
-  reached-past e = (
+  pub lockstep-past : (leb believed one && leb believed two) ≡ true → (believed ≤ one) × (believed ≤ two)
+  lockstep-past e = (
     leb-true believed one (and-left (leb believed one) (leb believed two) e),
     leb-true believed two (and-right (leb believed one) (leb believed two) e),
   )
 
   -- one of them is
-  pub reached-believed : (leb believed one && leb believed two) ≡ false
+  pub lockstep-believed : (leb believed one && leb believed two) ≡ false
       → ltb one two ≡ earlier firstBuckets believed bucket other
-  reached-believed e = sym (earlier-number firstBuckets (omega arith) believed (so .some) one two
+  lockstep-believed e = sym (earlier-number firstBuckets (omega arith) believed (so .some) one two
       (go (leb believed one) (leb believed two) (leb-false believed one) (leb-false believed two) e)) ∙ so .alike
     where
       go : (a b : Bool) → (a ≡ false → one < believed) → (b ≡ false → two < believed) → (a && b) ≡ false
@@ -40,15 +40,15 @@ module _ {believed bucket other one two : ℕ} (so : Reached believed bucket oth
 
   module _ {above beside : ℕ} (ea : above ≡ parent firstBuckets one) (eb : beside ≡ parent firstBuckets two) where
     -- they have one parent
-    pub reached-siblings : above ≡ beside → ltb one two ≡ earlier firstBuckets believed bucket other
-    reached-siblings e =
+    pub lockstep-siblings : above ≡ beside → ltb one two ≡ earlier firstBuckets believed bucket other
+    lockstep-siblings e =
         sym (earlier-number firstBuckets (omega arith) believed (so .some) one two (inr (inr cc))) ∙ so .alike
 
     -- or their parents are reached next
-    pub reached-parents : (leb believed one && leb believed two) ≡ true → (above ≡ beside → ⊥)
-        → Reached believed bucket other above beside
-    reached-parents past e =
-        let (low, high) = reached-past past in
+    pub lockstep-parents : (leb believed one && leb believed two) ≡ true → (above ≡ beside → ⊥)
+        → Lockstep believed bucket other above beside
+    lockstep-parents past e =
+        let (low, high) = lockstep-past past in
         record {
           some = so .some;
           alike = ap₂ (earlier firstBuckets believed) ea eb

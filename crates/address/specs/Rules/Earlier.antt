@@ -1,4 +1,4 @@
--- A scan's visits are in the order that `earlier` tells from two numbers alone. Each bucket that was sent a message is
+-- A scan's visits are in the order that `earlier` tells from two numbers alone. AllOf bucket that was sent a message is
 -- believed in or has its parent among those that have handled theirs; so the children of the next one come after all
 -- that were sent one before, the lower first.
 use Prim.Native.Nat.{ℕ, zero, suc, _+_, _-_, _≤_, _<_}
@@ -156,33 +156,33 @@ module _ (N : ℕ) (positive : 0 < N) (believed : ℕ) (first : N ≤ believed) 
 
 -- ---- a property of each element of a list
 
-abbrev pub Each : (ℕ → Type 0) → List ℕ → Type 0
-Each P [] = Unit {0}
-Each P (x ∷ xs) = P x × Each P xs
+abbrev pub AllOf : (ℕ → Type 0) → List ℕ → Type 0
+AllOf P [] = Unit {0}
+AllOf P (x ∷ xs) = P x × AllOf P xs
 
-each-append : (P : ℕ → Type 0) (xs ys : List ℕ) → Each P xs → Each P ys → Each P (xs ++ ys)
+each-append : (P : ℕ → Type 0) (xs ys : List ℕ) → AllOf P xs → AllOf P ys → AllOf P (xs ++ ys)
 each-append P [] ys ex ey = ey
 each-append P (x ∷ xs) ys ex ey = (ex .0, each-append P xs ys (ex .1) ey)
 
-each-map : (P Q : ℕ → Type 0) → ((x : ℕ) → P x → Q x) → (xs : List ℕ) → Each P xs → Each Q xs
+each-map : (P Q : ℕ → Type 0) → ((x : ℕ) → P x → Q x) → (xs : List ℕ) → AllOf P xs → AllOf Q xs
 each-map P Q f [] e = tt
 each-map P Q f (x ∷ xs) e = (f x (e .0), each-map P Q f xs (e .1))
 
 -- of the element at a place
-pub each-at : (P : ℕ → Type 0) (xs : List ℕ) (k : ℕ) → Each P xs → k < length xs → P (getD xs k 0)
+pub each-at : (P : ℕ → Type 0) (xs : List ℕ) (k : ℕ) → AllOf P xs → k < length xs → P (getD xs k 0)
 each-at P [] k e h = absurd (omega arith)
 each-at P (x ∷ xs) zero e h = e .0
 each-at P (x ∷ xs) (suc k) e h = each-at P xs k (e .1) (omega arith)
 
 -- of a number that stands in the list
-pub each-of : (P : ℕ → Type 0) (xs : List ℕ) (x : ℕ) → Each P xs → 0 < times x xs → P x
+pub each-of : (P : ℕ → Type 0) (xs : List ℕ) (x : ℕ) → AllOf P xs → 0 < times x xs → P x
 each-of P [] x e h = absurd (omega (arith, times-none x))
 each-of P (y ∷ xs) x e h = ⊎-elim (λ s. subst P (sym s) (e .0))
     (λ s. each-of P xs x (e .1) (omega (arith, times-there x y xs s)))
     (same x y)
 
 -- and of all, if of every number that stands there
-pub each-all : (P : ℕ → Type 0) (xs : List ℕ) → ((x : ℕ) → 0 < times x xs → P x) → Each P xs
+pub each-all : (P : ℕ → Type 0) (xs : List ℕ) → ((x : ℕ) → 0 < times x xs → P x) → AllOf P xs
 each-all P [] f = tt
 each-all P (x ∷ xs) f = (
   f x (omega (arith, times-here x x xs refl)),
@@ -198,7 +198,7 @@ numbers-length a zero = refl
 numbers-length a (suc c) = ap suc (numbers-length (suc a) c)
 
 -- a property of each number in a row
-pub numbers-each : (P : ℕ → Type 0) (a c : ℕ) → ((x : ℕ) → a ≤ x → x < a + c → P x) → Each P (numbers a c)
+pub numbers-each : (P : ℕ → Type 0) (a c : ℕ) → ((x : ℕ) → a ≤ x → x < a + c → P x) → AllOf P (numbers a c)
 unfolding numbers
 numbers-each P a zero f = tt
 numbers-each P a (suc c) f =
@@ -206,10 +206,10 @@ numbers-each P a (suc c) f =
 
 -- ---- the visits are in this order
 
--- Each bucket of a list is before all that follow it.
+-- AllOf bucket of a list is before all that follow it.
 abbrev pub Ordered : ℕ → ℕ → List ℕ → Type 0
 Ordered N believed [] = Unit {0}
-Ordered N believed (x ∷ xs) = Each (λ y. earlier N believed x y ≡ true) xs × Ordered N believed xs
+Ordered N believed (x ∷ xs) = AllOf (λ y. earlier N believed x y ≡ true) xs × Ordered N believed xs
 
 -- by places
 pub ordered-at : (N believed : ℕ) (xs : List ℕ) (p q : ℕ) → Ordered N believed xs → p < q → q < length xs
@@ -223,7 +223,7 @@ ordered-at N believed (x ∷ xs) (suc p) (suc q) o h l = ordered-at N believed x
 
 -- one more at the end
 ordered-more : (N believed : ℕ) (xs : List ℕ) (y : ℕ) → Ordered N believed xs
-    → Each (λ x. earlier N believed x y ≡ true) xs → Ordered N believed (xs ++ (y ∷ []))
+    → AllOf (λ x. earlier N believed x y ≡ true) xs → Ordered N believed (xs ++ (y ∷ []))
 ordered-more N believed [] y o e = (tt, tt)
 ordered-more N believed (x ∷ xs) y o e = (
   each-append (λ z. earlier N believed x z ≡ true) xs (y ∷ []) (o .0) (e .0, tt),
@@ -270,7 +270,7 @@ module _ (N : ℕ) (positive : 0 < N) (believed : ℕ) (first : N ≤ believed) 
 
   -- the children of a bucket follow all that were sent a message before them
   born-ordered : (a c m : ℕ) (xs : List ℕ) → a < span N m → ((k : ℕ) → m ≤ k → believed ≤ child N a k)
-      → Ordered N believed xs → Each (Sooner a (child N a m)) xs → Ordered N believed (xs ++ born N a m c)
+      → Ordered N believed xs → AllOf (Sooner a (child N a m)) xs → Ordered N believed (xs ++ born N a m c)
   born-ordered a zero m xs low past o s = rw (born-none N a m 0 refl, append-nil xs) o
   born-ordered a (suc c) m xs low past o s =
       subst (Ordered N believed)
@@ -297,7 +297,7 @@ module _ (N : ℕ) (positive : 0 < N) (believed : ℕ) (first : N ≤ believed) 
       later x (inr (inr e)) = inr (inr (e .0, omega (arith, e .1, higher)))
 
   -- and bucket a is their parent
-  born-parent : (a m c : ℕ) → a < span N m → Each (λ x. parent N x ≡ a) (born N a m c)
+  born-parent : (a m c : ℕ) → a < span N m → AllOf (λ x. parent N x ≡ a) (born N a m c)
   born-parent a m zero low = rw (born-none N a m 0 refl) tt
   born-parent a m (suc c) low = rw (born-suc a m c)
       (parent-child N positive a m low, born-parent a (suc m) c (omega (arith, span-suc N m)))
@@ -369,7 +369,7 @@ module _ (N : ℕ) (positive : 0 < N) (file : Image) (formed : Formed N file)
   record Queued (h : ℕ) (sent : List ℕ) : Type 0 where
     under-way : Scanning N file image h sent
     order : Ordered N (buckets N image) sent
-    caused : Each (Caused h sent) sent
+    caused : AllOf (Caused h sent) sent
 
   queued-start : Queued 0 (numbers 0 (buckets N image))
   queued-start = record {
@@ -441,7 +441,7 @@ module _ (N : ℕ) (positive : 0 < N) (file : Image) (formed : Formed N file)
       (omega (arith, visits-length N positive file formed image imageFormed behind))
 
   -- a property of all buckets is one of each visit
-  pub visits-each : (P : ℕ → Type 0) → ((x : ℕ) → x < buckets N file → P x) → Each P (visits N file image)
+  pub visits-each : (P : ℕ → Type 0) → ((x : ℕ) → x < buckets N file → P x) → AllOf P (visits N file image)
   visits-each P f = each-all P (visits N file image)
       (λ x h. ⊎-elim (f x)
       (λ past. absurd (omega (arith, visits-only N positive file formed image imageFormed behind x past)))

@@ -13,7 +13,7 @@ use Rattle.address.specs.Compare.{below, same}
 use Rattle.address.specs.declared.Image.{Image}
 use Rattle.address.specs.Rules.{Formed, NotAhead, buckets, visits, earlier}
 use Rattle.address.specs.Rules.Scan.{times, times-none, times-here, times-there, visits-once, visits-only}
-use Rattle.address.specs.Rules.Earlier.{first-believed, earlier-number, earlier-self, earlier-refutes, Each}
+use Rattle.address.specs.Rules.Earlier.{first-believed, earlier-number, earlier-self, earlier-refutes, AllOf}
 use Rattle.address.specs.Rules.Earlier.{each-of, Ordered, visits-each, visits-ordered}
 
 -- The first number of a list that passes a test, and another number if none does.
@@ -108,7 +108,7 @@ module _ (N : ℕ) (positive : 0 < N) (file : Image) (formed : Formed N file)
     first-fine fine = go (visits N file image)
         (visits-each N positive file formed image imageFormed behind (λ x. bad x ≡ false) fine)
       where
-        go : (xs : List ℕ) → Each (λ x. bad x ≡ false) xs → firstOf bad none xs ≡ none
+        go : (xs : List ℕ) → AllOf (λ x. bad x ≡ false) xs → firstOf bad none xs ≡ none
         go [] e = first-none bad none
         go (x ∷ xs) e = first-there bad none x xs (e .0) ∙ go xs (e .1)
 

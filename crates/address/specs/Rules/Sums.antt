@@ -10,7 +10,7 @@ use Rattle.address.specs.declared.Image.{Image}
 use Rattle.address.specs.Rules.{Formed, NotAhead, buckets, numbers, visits}
 use Rattle.address.specs.Rules.Scan.{times, times-none, times-here, times-there, visits-once}
 use Rattle.address.specs.Rules.Order.{numbers-cons, numbers-none}
-use Rattle.address.specs.Rules.Earlier.{Each, visits-each, numbers-each}
+use Rattle.address.specs.Rules.Earlier.{AllOf, visits-each, numbers-each}
 
 -- The sum of a figure of each number in a list.
 pub sumOf : (ℕ → ℕ) → List ℕ → ℕ
@@ -64,7 +64,7 @@ module _ (f : ℕ → ℕ) where
       there e so = rw (times-there n x xs e) (omega (arith, so))
 
   -- a list of numbers below n
-  sum-counted : (xs : List ℕ) (n : ℕ) → Each (λ x. x < n) xs → sumOf f xs ≡ counted f xs n
+  sum-counted : (xs : List ℕ) (n : ℕ) → AllOf (λ x. x < n) xs → sumOf f xs ≡ counted f xs n
   unfolding sumOf
   sum-counted [] n e = sym (counted-none n)
   sum-counted (x ∷ xs) n e = omega (arith, sum-counted xs n (e .1), counted-cons x xs n (e .0))
