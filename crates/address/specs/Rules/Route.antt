@@ -22,12 +22,12 @@ pub last : ℕ → List ℕ → ℕ
 last a [] = a
 last a (b ∷ rest) = last b rest
 
--- AllOf bucket of a route that starts at a is higher than the one before.
+-- Each bucket of a route that starts at a is higher than the one before.
 abbrev pub Above : ℕ → List ℕ → Type 0
 Above a [] = Unit {0}
 Above a (b ∷ rest) = (a < b) × Above b rest
 
--- AllOf bucket of a route exists.
+-- Each bucket of a route exists.
 abbrev pub Below : ℕ → List ℕ → Type 0
 Below most [] = Unit {0}
 Below most (a ∷ rest) = (a < most) × Below most rest
