@@ -4,7 +4,7 @@ use address::FIRST_BUCKETS;
 use address::Image;
 ghost use mathlib.Core.Path.{_≡_};
 ghost use Prim.Native.Nat.{ℕ, _+_, _-_, _≤_, _<_};
-ghost use lib.ListN.{length, take};
+ghost use lib.ListN.{length};
 ghost use Rattle.address.specs.Limits.{firstBuckets};
 ghost use Rattle.address.specs.Room.{Room, ImageRoom};
 ghost use Rattle.address.specs.Rules.{buckets, child, numbers, visits, parent, earlier};
@@ -71,14 +71,6 @@ pub fn fill_visits(state: Image, image: Image, queue: &mut [u16])
         tail = send_on(bucket, told, own, tail, queue);
         handled += 1;
     }
-}
-
-// The same, of the list's start alone.
-pub fn visit_order(state: Image, image: Image, queue: &mut [u16])
-    requires { ⌜ Scannable state image × (buckets firstBuckets state ≤ length (now queue)) ⌝ }
-    ensures { λ _. ⌜ take (buckets firstBuckets state) (now (queue .exit)) ≡ visits firstBuckets state image ⌝ }
-{
-    fill_visits(state, image, queue);
 }
 
 // The bucket of whose split this one was born, by the leading zeros of its number.
