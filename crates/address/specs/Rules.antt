@@ -3,12 +3,15 @@
 pub mod Address
 pub mod Adjust
 pub mod Cases
+pub mod Earlier
+pub mod First
 pub mod Grow
 pub mod Hash
 pub mod Order
 pub mod Parent
 pub mod Route
 pub mod Scan
+pub mod Sums
 pub mod Table
 use Prim.Native.Nat.{ℕ, zero, suc, _+_, _*_, _-_, _^_, _%_, _≤_, _<_, max}
 use mathlib.Core.Bool.{Bool, true, cond, _&&_, _||_}
@@ -179,3 +182,18 @@ topSpan N b k (suc most) = cond (leb (span N (suc k)) b) (topSpan N b (suc k) mo
 -- none.
 pub parent : ℕ → ℕ → ℕ
 parent N b = cond (ltb b N) noBucket (b - topSpan N b 0 b)
+
+-- Which of two buckets a scan visits first needs no queue. A client believes in so many buckets. Two buckets are apart
+-- where one of them is believed in or both have one parent;
+pub apart : ℕ → ℕ → ℕ → ℕ → Bool
+apart N believed x y = ltb x believed || ltb y believed || eqb (parent N x) (parent N y)
+
+-- there the lower number is first, and otherwise the one whose parent is; `most` only bounds the recursion.
+pub earlierWithin : ℕ → ℕ → ℕ → ℕ → ℕ → Bool
+earlierWithin N believed zero x y = ltb x y
+earlierWithin N believed (suc most) x y =
+    cond (apart N believed x y) (ltb x y) (earlierWithin N believed most (parent N x) (parent N y))
+
+-- Bucket x is visited before bucket y. A parent's number is lower than its child's, so x steps are enough.
+pub earlier : ℕ → ℕ → ℕ → ℕ → Bool
+earlier N believed x y = earlierWithin N believed x x y

@@ -1,2 +1,3 @@
--- The list of the buckets that were sent a message, and its laws.
+-- The list of the buckets that were sent a message, and which of two is visited first.
+pub mod Earlier
 pub mod Queue

@@ -3,13 +3,13 @@
 use address::FIRST_BUCKETS;
 use address::Image;
 ghost use mathlib.Core.Path.{_≡_};
-ghost use mathlib.Core.List.{_++_};
 ghost use Prim.Native.Nat.{ℕ, _+_, _-_, _≤_, _<_};
-ghost use lib.ListN.{length, take};
+ghost use lib.ListN.{length};
 ghost use Rattle.address.specs.Limits.{firstBuckets};
 ghost use Rattle.address.specs.Room.{Room, ImageRoom};
-ghost use Rattle.address.specs.Rules.{buckets, child, numbers, visits};
+ghost use Rattle.address.specs.Rules.{buckets, child, numbers, visits, parent, earlier};
 ghost use Rattle.address.specs.Rules.Order.{born, Told};
+ghost use Rattle.layout.specs.Bytes.{edit};
 ghost use Rattle.order.specs.Queue.{Scannable};
 
 // The message level of a bucket, by its number: its level in the image where the client believes in it, otherwise
@@ -27,7 +27,7 @@ fn message_level(image: Image, bucket: u32) -> u32
 // The client sends to the first `count` buckets, in number order.
 fn send_first(count: usize, queue: &mut [u16])
     requires { ⌜ (count ≤ 65536) × (count ≤ length (now queue)) ⌝ }
-    ensures { λ _. ⌜ take count (now (queue .exit)) ≡ numbers 0 count ⌝ }
+    ensures { λ _. ⌜ now (queue .exit) ≡ edit 0 (numbers 0 count) (now (queue .entry)) ⌝ }
 {
     let mut k = 0;
     while k < count {
@@ -42,8 +42,7 @@ fn send_on(bucket: u32, told: u32, own: u32, tail: usize, queue: &mut [u16]) -> 
     requires { ⌜ Room firstBuckets own × (tail + (own - told) ≤ length (now queue))
         × ((k : ℕ) → told ≤ k → k < own → child firstBuckets bucket k < 65536) ⌝ }
     ensures { λ r. ⌜ (r ≡ tail + (own - told))
-        × (take r (now (queue .exit)) ≡ take tail (now (queue .entry)) ++ born firstBuckets bucket told (own - told))
-        ⌝ }
+        × (now (queue .exit) ≡ edit tail (born firstBuckets bucket told (own - told)) (now (queue .entry))) ⌝ }
 {
     let mut level = told;
     let mut end = tail;
@@ -55,10 +54,11 @@ fn send_on(bucket: u32, told: u32, own: u32, tail: usize, queue: &mut [u16]) -> 
     end
 }
 
-// Fills the list's start with the buckets of a file in the order in which a scan by a client's image visits them.
-pub fn visit_order(state: Image, image: Image, queue: &mut [u16])
+// Fills the list's start with the buckets of a file in the order in which a scan by a client's image visits them; the
+// entries past them keep their content.
+pub fn fill_visits(state: Image, image: Image, queue: &mut [u16])
     requires { ⌜ Scannable state image × (buckets firstBuckets state ≤ length (now queue)) ⌝ }
-    ensures { λ _. ⌜ take (buckets firstBuckets state) (now (queue .exit)) ≡ visits firstBuckets state image ⌝ }
+    ensures { λ _. ⌜ now (queue .exit) ≡ edit 0 (visits firstBuckets state image) (now (queue .entry)) ⌝ }
 {
     let count = address::buckets(FIRST_BUCKETS, state) as usize;
     let mut tail = address::buckets(FIRST_BUCKETS, image) as usize;
@@ -71,4 +71,32 @@ pub fn visit_order(state: Image, image: Image, queue: &mut [u16])
         tail = send_on(bucket, told, own, tail, queue);
         handled += 1;
     }
+}
+
+// The bucket of whose split this one was born, by the leading zeros of its number.
+fn parent_of(bucket: u32) -> u32
+    requires { ⌜ 0 < bucket ⌝ }
+    ensures { λ r. ⌜ (r ≡ parent firstBuckets bucket) × (r < bucket) ⌝ }
+{
+    bucket - (1 << (31 - u32::leading_zeros(bucket)))
+}
+
+// Whether a scan by a client that believes in so many buckets visits one bucket before another: both are followed up
+// to their parents until one of them is believed in or both have one parent.
+pub fn earlier(believed: u32, bucket: u32, other: u32) -> bool
+    requires { ⌜ 0 < believed ⌝ }
+    ensures { λ r. ⌜ r ≡ earlier firstBuckets believed bucket other ⌝ }
+{
+    let mut one = bucket;
+    let mut two = other;
+    while (believed <= one) & (believed <= two) {
+        let above = parent_of(one);
+        let beside = parent_of(two);
+        if above == beside {
+            return one < two;
+        }
+        one = above;
+        two = beside;
+    }
+    one < two
 }

@@ -4,8 +4,10 @@ pub mod Outcome
 pub mod Bits
 pub mod Fill
 pub mod Found
+pub mod Notes
 pub mod Replied
 pub mod Tally
+pub mod Unsound
 pub mod Way
 use Prim.Native.Nat.{ℕ, _/_}
 use mathlib.Core.Bool.{Bool, cond, not}

@@ -1,25 +1,30 @@
 -- `order::send_first`: the numbers written so far and those still to come are all of them.
 use borrow.Author.Needs.{needs}
-use Prim.Native.Nat.{ℕ, _+_, _-_, _≤_}
-use mathlib.Core.Path.{_≡_, refl, sym, ap, _∙_}
-use mathlib.Core.List.{_++_}
+use Prim.Native.Nat.{_-_, _≤_}
+use mathlib.Core.Path.{_≡_, refl, ap}
 use native.Mathlib.Omega.{arith}
-use lib.ListN.{length, take, length-set}
+use lib.ListN.{length, length-set}
 use Rattle.address.specs.Rules.{numbers}
+use Rattle.address.specs.Rules.Earlier.{numbers-length}
 use Rattle.address.specs.Rules.Order.{numbers-cons, numbers-none}
-use Rattle.order.specs.Queue.{filled-more, filled-done}
+use Rattle.layout.specs.Bytes.{edit}
+use Rattle.order.specs.Queue.{Writing, writing-start, writing-more, writing-done}
 use Rattle.order.proofs.send_first.Statement.{statement}
 use Rattle.order.proofs.send_first.Tie as tie
 
 abbrev Inv-loop : tie.InvT-loop
 Inv-loop count queue₀ k₀ queue k = (k ≤ count) × (length queue ≡ length queue₀)
-    × (take k queue ++ numbers k (count - k) ≡ numbers 0 count)
+    × Writing queue k (numbers k (count - k)) (edit 0 (numbers 0 count) queue₀)
 
 abbrev μ-loop : tie.MeasureT-loop
 μ-loop count queue₀ k₀ queue k = count - k
 
 loop-holds : tie.Need-loop-holds Inv-loop μ-loop
-loop-holds c = (omega arith, refl, ap (numbers 0) (omega arith))
+loop-holds c = (
+  omega arith,
+  refl,
+  writing-start _ 0 (ap (numbers 0) (omega arith)) (omega (arith, numbers-length 0 (c .args .count))),
+)
 
 cast-queue : tie.Need-cast-queue Inv-loop μ-loop
 cast-queue c = search needs
@@ -38,13 +43,10 @@ loop-less c = search needs
 
 loop-again : tie.Need-loop-again Inv-loop μ-loop
 loop-again c =
-    let a = c .before .before .args in
     let l = c .before .loop in (
       omega arith,
-      length-set (l .queue) (l .k) (l .k) ∙ l .inv .1,
-      filled-more (l .queue) (l .k) (numbers (l .k) (a .count - l .k)) (numbers 0 (a .count)) (l .inv .2) (l .k)
-          (numbers (l .k + 1) (a .count - (l .k + 1)))
-          (omega arith) (numbers-cons (l .k) (a .count) (c .loop-test .taken)),
+      omega (arith, length-set (l .queue) (l .k) (l .k)),
+      writing-more (l .inv .2) (numbers-cons (l .k) (c .before .before .args .count) (c .loop-test .taken)),
     )
 
 same-length : tie.Need-same-length Inv-loop μ-loop
@@ -52,12 +54,8 @@ same-length c = search needs
 
 returns : tie.Need-returns Inv-loop μ-loop
 returns c =
-    let a = c .before .before .args in
     let l = c .before .loop in
-    let all : l .k ≡ a .count = omega arith in
-    ap (λ (n : ℕ). take n (l .queue)) (sym all)
-    ∙ filled-done (l .queue) (l .k) (numbers (l .k) (a .count - l .k)) (numbers 0 (a .count)) (l .inv .2)
-    (numbers-none (l .k) (a .count - l .k) (omega arith))
+    writing-done (l .inv .2) (numbers-none (l .k) (c .before .before .args .count - l .k) (omega arith))
 
 pub send-first-spec : {M : Type 1} → statement M
 send-first-spec =

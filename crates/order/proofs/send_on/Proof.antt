@@ -1,28 +1,36 @@
 -- `order::send_on`: the children written so far and those still to come are all that the bucket sends to.
 use borrow.Author.Needs.{needs}
 use Prim.Native.Nat.{ℕ, _+_, _-_, _≤_}
-use mathlib.Core.Path.{_≡_, sym, ap, _∙_}
-use mathlib.Core.List.{_∷_, _++_}
+use mathlib.Core.Path.{_≡_, refl, sym, ap, _∙_}
+use mathlib.Core.List.{_∷_}
 use native.Mathlib.Omega.{arith}
-use lib.ListN.{length, take, length-set}
+use lib.ListN.{length, length-set}
 use Rattle.address.specs.Limits.{firstBuckets}
 use Rattle.address.specs.Rules.Cases.{child-is}
-use Rattle.address.specs.Rules.Order.{born, born-cons, born-none}
-use Rattle.order.specs.Queue.{filled-more, filled-done}
+use Rattle.address.specs.Rules.Order.{born, born-cons, born-none, born-length}
+use Rattle.layout.specs.Bytes.{edit}
+use Rattle.order.specs.Queue.{Writing, writing-start, writing-more, writing-done}
 use Rattle.order.proofs.send_on.Statement.{statement}
 use Rattle.order.proofs.send_on.Tie as tie
 
 abbrev Inv-loop : tie.InvT-loop
 Inv-loop bucket told own tail queue₀ level₀ end₀ queue level end = (told ≤ level)
     × (end + (own - level) ≡ tail + (own - told)) × (length queue ≡ length queue₀)
-    × (take end queue ++ born firstBuckets bucket level (own - level)
-    ≡ take tail queue₀ ++ born firstBuckets bucket told (own - told))
+    × Writing queue end (born firstBuckets bucket level (own - level))
+    (edit tail (born firstBuckets bucket told (own - told)) queue₀)
 
 abbrev μ-loop : tie.MeasureT-loop
 μ-loop bucket told own tail queue₀ level₀ end₀ queue level end = own - level
 
 loop-holds : tie.Need-loop-holds Inv-loop μ-loop
-loop-holds c = search needs
+loop-holds c =
+    let a = c .before .args in (
+      omega arith,
+      refl,
+      refl,
+      writing-start _ (a .tail) refl
+          (omega (arith, born-length firstBuckets (a .bucket) (a .told) (a .own - a .told))),
+    )
 
 child-requires : tie.Need-child-requires Inv-loop μ-loop
 child-requires c κs =
@@ -68,11 +76,8 @@ loop-again c =
     let l = c .before .before .loop in (
       omega arith,
       omega arith,
-      length-set (l .queue) (l .end) (c .child .result) ∙ l .inv .2,
-      filled-more (l .queue) (l .end) (born firstBuckets (a .bucket) (l .level) (a .own - l .level))
-          (take (a .tail) (a .queue .now) ++ born firstBuckets (a .bucket) (a .told) (a .own - a .told)) (l .inv .3)
-          (c .child .result) (born firstBuckets (a .bucket) (l .level + 1) (a .own - (l .level + 1)))
-          (omega arith)
+      omega (arith, length-set (l .queue) (l .end) (c .child .result)),
+      writing-more (l .inv .3)
           (born-cons firstBuckets (a .bucket) (l .level) (a .own) (c .before .loop-test .taken)
           ∙ ap (λ (b : ℕ). b ∷ born firstBuckets (a .bucket) (l .level + 1) (a .own - (l .level + 1)))
           (sym (c .child .ensures))),
@@ -86,9 +91,7 @@ returns c =
     let a = c .before .before .before .args in
     let l = c .before .loop in (
       omega arith,
-      filled-done (l .queue) (l .end) (born firstBuckets (a .bucket) (l .level) (a .own - l .level))
-          (take (a .tail) (a .queue .now) ++ born firstBuckets (a .bucket) (a .told) (a .own - a .told)) (l .inv .3)
-          (born-none firstBuckets (a .bucket) (l .level) (a .own - l .level) (omega arith)),
+      writing-done (l .inv .3) (born-none firstBuckets (a .bucket) (l .level) (a .own - l .level) (omega arith)),
     )
 
 pub send-on-spec : {M : Type 1} → statement M

@@ -1,13 +1,14 @@
--- `scan::collect` refuses by the tally, 7 and then 12, and otherwise writes both lists: the keys that were noted are
--- the matching ones.
+-- `scan::collect` refuses by the tally, 7 and then 12, and otherwise writes both lists.
 use borrow.Author.Needs.{needs}
-use Rattle.scan.specs.Scan.Replied.{judged-unsound, judged-sound, judged-short, judged-fits, judged-room}
-use Rattle.scan.specs.Scan.Replied.{judged-done}
+use Rattle.scan.specs.Scan.Replied.{judged-lowest, judged-unsound, judged-noted, judged-short, judged-room, judged-done}
 use Rattle.scan.proofs.collect.Statement.{statement}
 use Rattle.scan.proofs.collect.Tie as tie
 
-judge-way-requires : tie.Need-judge-way-requires
-judge-way-requires c κs = search needs
+judge-all-requires : tie.Need-judge-all-requires
+judge-all-requires c κs = search needs
+
+first-unsound-requires : tie.Need-first-unsound-requires
+first-unsound-requires c κs = (search needs, search judged-lowest)
 
 refused-scan-requires : tie.Need-refused-scan-requires
 refused-scan-requires c κs = search needs
@@ -30,20 +31,8 @@ same-length-2 c = search needs
 returns-2 : tie.Need-returns-2
 returns-2 c = search judged-short
 
-put-visits-requires : tie.Need-put-visits-requires
-put-visits-requires c κs = search needs
-
-put-matches-requires : tie.Need-put-matches-requires
-put-matches-requires c κs = (
-  search needs,
-  search needs,
-  search judged-sound,
-  search judged-fits,
-  search judged-room,
-)
-
-cast-t21 : tie.Need-cast-t21
-cast-t21 c = search needs
+put-lists-requires : tie.Need-put-lists-requires
+put-lists-requires c κs = (search needs, search judged-noted, search needs, search judged-room)
 
 same-length-3 : tie.Need-same-length-3
 same-length-3 c = search needs
@@ -61,7 +50,8 @@ pub collect-spec : {M : Type 1} → statement M
 collect-spec =
     tie.close
     (tie.spec
-    judge-way-requires
+    judge-all-requires
+    first-unsound-requires
     refused-scan-requires
     same-length
     returns
@@ -69,9 +59,7 @@ collect-spec =
     refused-scan-requires-2
     same-length-2
     returns-2
-    put-visits-requires
-    put-matches-requires
-    cast-t21
+    put-lists-requires
     same-length-3
     same-length-4
     same-length-5

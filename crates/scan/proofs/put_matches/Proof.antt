@@ -1,19 +1,19 @@
--- `scan::put_matches`: the selected keys of the buckets that are left, written behind those that stand there, make the
--- whole write.
+-- `scan::put_matches`: the matches of the buckets that are left, written behind those that stand there, make the whole
+-- write.
 use borrow.Author.Needs.{needs}
 use Prim.Native.Nat.{_-_}
 use lib.ListN.{length}
-use Rattle.scan.specs.Scan.Fill.{fitting-here, Written, write-none, write-sound, write-room, write-more}
-use Rattle.scan.specs.Scan.Fill.{write-done}
+use Rattle.scan.specs.Scan.Fill.{Written, write-none, write-few, write-room, write-more, write-done}
+use Rattle.scan.specs.Scan.Notes.{noted-sound}
 use Rattle.scan.specs.Scan.Way.{way-exists}
 use Rattle.scan.proofs.put_matches.Statement.{statement}
 use Rattle.scan.proofs.put_matches.Tie as tie
 
 abbrev Inv-loop : tie.InvT-loop
-Inv-loop file header way bits matches₀ filled₀ k₀ matches filled k = Written file way bits matches₀ k filled matches
+Inv-loop file header way lift notes matches₀ filled₀ k₀ matches filled k = Written file lift way matches₀ k filled matches
 
 abbrev μ-loop : tie.MeasureT-loop
-μ-loop file header way bits matches₀ filled₀ k₀ matches filled k = length way - k
+μ-loop file header way lift notes matches₀ filled₀ k₀ matches filled k = length way - k
 
 loop-holds : tie.Need-loop-holds Inv-loop μ-loop
 loop-holds c = search write-none
@@ -27,20 +27,11 @@ shared-slice-read-number c = search needs
 number-requires : tie.Need-number-requires Inv-loop μ-loop
 number-requires c κs = search needs
 
-mul-put-bucket : tie.Need-mul-put-bucket Inv-loop μ-loop
-mul-put-bucket c = search needs
-
-shared-slice-read-put-bucket : tie.Need-shared-slice-read-put-bucket Inv-loop μ-loop
-shared-slice-read-put-bucket c = search needs
+bits-of-requires : tie.Need-bits-of-requires Inv-loop μ-loop
+bits-of-requires c κs = (search needs, search way-exists, search needs)
 
 put-bucket-requires : tie.Need-put-bucket-requires Inv-loop μ-loop
-put-bucket-requires c κs = (
-  search needs,
-  search way-exists,
-  search write-sound,
-  search fitting-here,
-  search write-room,
-)
+put-bucket-requires c κs = (search needs, search way-exists, search (noted-sound, way-exists), search write-few, search write-room)
 
 add-k : tie.Need-add-k Inv-loop μ-loop
 add-k c = search needs
@@ -67,8 +58,7 @@ put-matches-spec =
     mul-number
     shared-slice-read-number
     number-requires
-    mul-put-bucket
-    shared-slice-read-put-bucket
+    bits-of-requires
     put-bucket-requires
     add-k
     loop-less

@@ -1,8 +1,7 @@
 -- `scan::scan` refuses 2 to 6 and 11, and scans along the visit order of the client's image.
-use native.Mathlib.Omega.{arith}
-use Rattle.scan.specs.Scan.Replied.{scan-early, opened-short, opened-long}
-use Rattle.scan.specs.Scan.Way.{starting, starting-buckets, starting-few}
 use borrow.Author.Needs.{needs}
+use Rattle.scan.specs.Scan.Replied.{scan-early, opened-short, opened-long}
+use Rattle.scan.specs.Scan.Way.{starting, starting-state-room, starting-long}
 use Rattle.scan.proofs.scan.Statement.{statement}
 use Rattle.scan.proofs.scan.Tie as tie
 
@@ -19,11 +18,12 @@ returns : tie.Need-returns
 returns c = search scan-early
 
 buckets-requires : tie.Need-buckets-requires
-buckets-requires c κs = c .before .before .before .before .«open» .ensures .1
-    (c .before .before .if1 .left) .known .room
+buckets-requires c κs =
+    let passed = c .before .before in
+    starting-state-room (passed .before .before .«open» .ensures .1) (passed .if1 .left)
 
-cast-buckets : tie.Need-cast-buckets
-cast-buckets c = search needs
+cast-if2 : tie.Need-cast-if2
+cast-if2 c = search needs
 
 refused-scan-requires-2 : tie.Need-refused-scan-requires-2
 refused-scan-requires-2 c κs = search needs
@@ -36,24 +36,13 @@ returns-2 c =
     opened-short (opened .ensures .0) (opened .ensures .1) (passed .if1 .left) (count .buckets .ensures) _ _ _
     (c .before .if2 .taken) (c .refused-scan2 .ensures)
 
-slice-aggregate-follow : tie.Need-slice-aggregate-follow
-slice-aggregate-follow c = search needs
-
-slice-aggregate-follow-2 : tie.Need-slice-aggregate-follow-2
-slice-aggregate-follow-2 c = search needs
-
-follow-requires : tie.Need-follow-requires
-follow-requires c κs =
-    let few = c .before .before .before .before in
-    let count = few .before .before in
+collect-noting-requires : tie.Need-collect-noting-requires
+collect-noting-requires c κs =
+    let long = c .before .before in
+    let count = long .before in
     let passed = count .before .before .before in
-    let given = starting (passed .before .before .«open» .ensures .1 (passed .if1 .left)) in
-    let all = starting-buckets given (count .buckets .result) (count .buckets .ensures) in (
-      given,
-      omega (arith, few .if3 .taken, all, starting-few given),
-      omega (arith, few .if3 .taken, all, starting-few given),
-      omega (arith, few .before .if2 .left, all),
-    )
+    let given = starting (passed .before .before .«open» .ensures .1) (passed .if1 .left) in
+    (given, starting-long given (count .buckets .ensures) (long .if2 .left))
 
 same-length : tie.Need-same-length
 same-length c = search needs
@@ -64,34 +53,6 @@ same-length-2 c = search needs
 returns-3 : tie.Need-returns-3
 returns-3 c = search opened-long
 
-slice-aggregate-follow-3 : tie.Need-slice-aggregate-follow-3
-slice-aggregate-follow-3 c = search needs
-
-slice-aggregate-follow-4 : tie.Need-slice-aggregate-follow-4
-slice-aggregate-follow-4 c = search needs
-
-follow-requires-2 : tie.Need-follow-requires-2
-follow-requires-2 c κs =
-    let few = c .before .before .before .before in
-    let count = few .before .before in
-    let passed = count .before .before .before in
-    let given = starting (passed .before .before .«open» .ensures .1 (passed .if1 .left)) in
-    let all = starting-buckets given (count .buckets .result) (count .buckets .ensures) in (
-      given,
-      omega (arith, few .if3 .left, all, starting-few given),
-      omega (arith, few .if3 .left, all, starting-few given),
-      omega (arith, few .before .if2 .left, all),
-    )
-
-same-length-3 : tie.Need-same-length-3
-same-length-3 c = search needs
-
-same-length-4 : tie.Need-same-length-4
-same-length-4 c = search needs
-
-returns-4 : tie.Need-returns-4
-returns-4 c = search opened-long
-
 pub scan-spec : {M : Type 1} → statement M
 scan-spec =
     tie.close
@@ -101,18 +62,10 @@ scan-spec =
     refused-scan-requires
     returns
     buckets-requires
-    cast-buckets
+    cast-if2
     refused-scan-requires-2
     returns-2
-    slice-aggregate-follow
-    slice-aggregate-follow-2
-    follow-requires
+    collect-noting-requires
     same-length
     same-length-2
-    returns-3
-    slice-aggregate-follow-3
-    slice-aggregate-follow-4
-    follow-requires-2
-    same-length-3
-    same-length-4
-    returns-4)
+    returns-3)

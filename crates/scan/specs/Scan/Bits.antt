@@ -1,20 +1,17 @@
 -- Which keys of a bucket match, as bits, the first key's the lowest. The keys that such bits select are the matching
 -- ones, as many as bits are set; the trailing zeros of what is left of the bits tell the next of them.
 use Prim.Native.Nat.{ℕ, zero, suc, _+_, _-_, _*_, _/_, _%_, _^_, _≤_, _<_}
-use mathlib.Core.Path.{_≡_, refl, sym, ap, ap₂, _∙_}
+use mathlib.Core.Path.{_≡_, refl, sym, ap, _∙_}
 use mathlib.Core.Bool.{Bool, true, false, cond}
-use mathlib.Core.List.{List, [], _∷_, _++_}
-use mathlib.Core.Logic.{⊎-elim}
+use mathlib.Core.List.{List, [], _∷_}
 use native.Mathlib.Nat.{pow-suc, pow-succ', div-one, div-div-eq-div-mul}
 use native.Mathlib.Omega.{arith}
 use lib.Count.{ones, ones-step, trailingZeros, under}
 use lib.Dec.{eqb}
-use lib.ListN.{length, getD, drop, set, length-drop}
-use lib.Seq.{getD-set-same, getD-set-other}
+use lib.ListN.{length, getD, drop, length-drop}
 use lib.Pow.{pow-mono}
 use Rattle.address.specs.Limits.{mostSlots}
-use Rattle.address.specs.Compare.{same}
-use Rattle.scan.specs.Scan.{ofLift, matching, keysIn, matchesOn}
+use Rattle.scan.specs.Scan.{ofLift, matching}
 use Rattle.scan.specs.Scan.Way.{rest-first, rest-none}
 
 -- A bit for each key that is of a lift.
@@ -26,12 +23,6 @@ bitsOf lift (key ∷ keys) = cond (ofLift lift key) 1 0 + 2 * bitsOf lift keys
 pub selected : ℕ → List ℕ → List ℕ
 selected bits [] = []
 selected bits (key ∷ keys) = cond (eqb (bits % 2) 1) (key ∷ selected (bits / 2) keys) (selected (bits / 2) keys)
-
--- The selected keys of the buckets on a way, each with bits of its own.
-pub selectedOn : List ℕ → List ℕ → List ℕ → List ℕ
-selectedOn file [] bits = []
-selectedOn file (a ∷ way) [] = []
-selectedOn file (a ∷ way) (b ∷ bits) = selected b (keysIn file a) ++ selectedOn file way bits
 
 -- the lowest bit, and the others
 low-bit : (b : Bool) (rest : ℕ) → (cond b 1 0 + 2 * rest) % 2 ≡ cond b 1 0
@@ -153,35 +144,3 @@ next (suc d) bits (key ∷ keys) short some few = go (bits % 2) refl
         }
     go (suc zero) e later = record { within = omega arith; is = rw (e, div-one bits); few = rw (div-one bits) half }
     go (suc (suc r)) e later = absurd (omega arith)
-
--- ---- the selected keys of a way
-
-pub selected-none : (file bits : List ℕ) → selectedOn file [] bits ≡ []
-unfolding selectedOn
-selected-none file bits = refl
-
-pub selected-first : (file : List ℕ) (a : ℕ) (way : List ℕ) (b : ℕ) (bits : List ℕ)
-    → selectedOn file (a ∷ way) (b ∷ bits) ≡ selected b (keysIn file a) ++ selectedOn file way bits
-unfolding selectedOn
-selected-first file a way b bits = refl
-
--- the bits of the first k buckets' matches
-abbrev pub Noted : List ℕ → ℕ → List ℕ → List ℕ → ℕ → Type 0
-Noted file lift way bits k = (i : ℕ) → i < k → getD bits i 0 ≡ bitsOf lift (keysIn file (getD way i 0))
-
-pub note-more : (file : List ℕ) (lift : ℕ) (way bits : List ℕ) (k : ℕ) → Noted file lift way bits k → k < length bits
-    → (b : ℕ) → b ≡ bitsOf lift (keysIn file (getD way k 0)) → Noted file lift way (set bits k b) (k + 1)
-note-more file lift way bits k so fits b e i h = ⊎-elim
-    (λ f. ap (λ (n : ℕ). getD (set bits k b) n 0) f ∙ getD-set-same bits k b 0 fits ∙ e
-    ∙ ap (λ (n : ℕ). bitsOf lift (keysIn file (getD way n 0))) (sym f))
-    (λ f. getD-set-other bits k i b 0 f ∙ so i (omega arith))
-    (same i k)
-
-pub noted-match : (file : List ℕ) (lift : ℕ) (way bits : List ℕ) → length way ≤ length bits
-    → Noted file lift way bits (length way) → selectedOn file way bits ≡ matchesOn file lift way
-unfolding selectedOn matchesOn
-noted-match file lift [] bits long so = refl
-noted-match file lift (a ∷ way) [] long so = absurd (omega arith)
-noted-match file lift (a ∷ way) (b ∷ bits) long so =
-    ap₂ _++_ (ap (λ (n : ℕ). selected n (keysIn file a)) (so 0 (omega arith)) ∙ select-match lift (keysIn file a))
-    (noted-match file lift way bits (omega arith) (λ i h. so (suc i) (omega arith)))

@@ -1,8 +1,7 @@
--- Writing visits and matches: what is left to write, written over the list as it is now, gives the list that the whole
--- write leaves.
+-- Writing the matches: what is left to write, written over the list as it is now, gives the list that the whole write
+-- leaves.
 use Prim.Native.Nat.{ℕ, suc, _+_, _/_, _^_, _≤_, _<_}
 use mathlib.Core.Path.{_≡_, refl, sym, ap, ap₂, subst, _∙_}
-use mathlib.Core.Bool.{true}
 use mathlib.Core.List.{List, [], _∷_, _++_}
 use native.Mathlib.Omega.{arith}
 use lib.Count.{trailingZeros}
@@ -11,35 +10,10 @@ use lib.Seq.{getD-drop, drop-drop}
 use Rattle.address.specs.Limits.{mostSlots}
 use Rattle.layout.specs.Bytes.{edit}
 use Rattle.layout.specs.Bytes.Edit.{edit-next, edit-nothing, edit-first, length-edit}
-use Rattle.bucket.specs.Region.Every.{every-first, every-next}
-use Rattle.file.specs.File.{bucketSoundIn}
-use Rattle.bucket.specs.Region.{every}
-use Rattle.scan.specs.Scan.{keysIn}
-use Rattle.scan.specs.Scan.Bits.{bits-few, Noted, selected, selectedOn, select-none, selected-none}
-use Rattle.scan.specs.Scan.Bits.{selected-first, Next, next}
+use Rattle.scan.specs.Scan.{matching, keysIn, matchesOn}
+use Rattle.scan.specs.Scan.Bits.{bitsOf, bits-few, selected, select-match, select-none, Next, next}
+use Rattle.scan.specs.Scan.Tally.{matches-first, matches-none}
 use Rattle.scan.specs.Scan.Way.{rest-first, rest-none}
-
--- ---- the visits
-
-pub record Copied (way old : List ℕ) (k : ℕ) (now : List ℕ) : Type 0 where
-  pub within : k ≤ length way
-  pub full : length now ≡ length old
-  pub is : edit k (drop k way) now ≡ edit 0 way old
-
-pub copy-none : (way old : List ℕ) → Copied way old 0 old
-copy-none way old = record { within = omega arith; full = refl; is = refl }
-
-module _ {way old : List ℕ} {k : ℕ} {now : List ℕ} (so : Copied way old k now) where
-  pub copy-more : length way ≤ length old → k < length way → Copied way old (k + 1) (set now k (getD way k 0))
-  copy-more room more = record {
-    within = omega arith;
-    full = length-set now k (getD way k 0) ∙ so .full;
-    is = edit-first k (getD way k 0) (drop (k + 1) way) now (omega (arith, length-drop (k + 1) way, so .full))
-        ∙ ap (λ (l : List ℕ). edit k l now) (sym (rest-first way k more)) ∙ so .is;
-  }
-
-  pub copy-done : length way ≤ k → now ≡ edit 0 way old
-  copy-done end = sym (ap (λ (l : List ℕ). edit k l now) (rest-none way k end) ∙ edit-nothing k now) ∙ so .is
 
 -- ---- one bucket's selected keys
 
@@ -108,82 +82,62 @@ module _ {keys : List ℕ} {bits from : ℕ} {old : List ℕ} {left slot filled 
             ∙ so .is;
       }
 
--- ---- the selected keys of a way
+-- ---- the matches of a way
 
--- bits for the keys of each bucket on a way, no more bits than keys
-pub record Fitting (file way bits : List ℕ) : Type 0 where
-  pub long : length way ≤ length bits
-  pub each : (k : ℕ) → k < length way → getD bits k 0 < 2 ^ length (keysIn file (getD way k 0))
-
-pub fitting-here : {file way bits : List ℕ} → Fitting file way bits → {a : ℕ} (k : ℕ) → a ≡ getD way k 0
-    → k < length way → getD bits k 0 < 2 ^ length (keysIn file a)
-fitting-here fit k here more = rw here (fit .each k more)
-
-pub noted-fits : (file : List ℕ) (lift : ℕ) (way bits : List ℕ) → length way ≤ length bits
-    → Noted file lift way bits (length way) → Fitting file way bits
-noted-fits file lift way bits long so =
-    record { long = long; each = λ k h. rw (so k h) (bits-few lift (keysIn file (getD way k 0))) }
-
-pub record Written (file way bits old : List ℕ) (k filled : ℕ) (now : List ℕ) : Type 0 where
-  pub within : k ≤ length way
+pub record Written (file : List ℕ) (lift : ℕ) (way old : List ℕ) (k filled : ℕ) (now : List ℕ) : Type 0 where
   pub full : length now ≡ length old
-  pub sound : every (bucketSoundIn file) (drop k way) ≡ true
-  pub room : filled + length (selectedOn file (drop k way) (drop k bits)) ≤ length now
-  pub is : edit filled (selectedOn file (drop k way) (drop k bits)) now ≡ edit 0 (selectedOn file way bits) old
+  pub room : filled + length (matchesOn file lift (drop k way)) ≤ length now
+  pub is : edit filled (matchesOn file lift (drop k way)) now ≡ edit 0 (matchesOn file lift way) old
 
-pub write-none : (file way bits old : List ℕ) → every (bucketSoundIn file) way ≡ true
-    → length (selectedOn file way bits) ≤ length old
-    → Written file way bits old 0 0 old
-write-none file way bits old sound room =
-    record { within = omega arith; full = refl; sound = sound; room = omega arith; is = refl }
+pub write-none : (file : List ℕ) (lift : ℕ) (way old : List ℕ) → length (matchesOn file lift way) ≤ length old
+    → Written file lift way old 0 0 old
+write-none file lift way old room = record { full = refl; room = omega arith; is = refl }
 
-module _ {file way bits old : List ℕ} {k filled : ℕ} {now : List ℕ} (so : Written file way bits old k filled now) where
-  pub write-done : length way ≤ k → now ≡ edit 0 (selectedOn file way bits) old
+module _ {file : List ℕ} {lift : ℕ} {way old : List ℕ} {k filled : ℕ} {now : List ℕ}
+    (so : Written file lift way old k filled now) where
+  pub write-done : length way ≤ k → now ≡ edit 0 (matchesOn file lift way) old
   write-done end = sym (ap (λ (l : List ℕ). edit filled l now) nothing ∙ edit-nothing filled now) ∙ so .is
     where
-      nothing : selectedOn file (drop k way) (drop k bits) ≡ []
-      nothing = ap (λ (l : List ℕ). selectedOn file l (drop k bits)) (rest-none way k end)
-          ∙ selected-none file (drop k bits)
+      nothing : matchesOn file lift (drop k way) ≡ []
+      nothing = ap (matchesOn file lift) (rest-none way k end) ∙ matches-none file lift
 
-  module _ {a : ℕ} (here : a ≡ getD way k 0) (more : k < length way) where
-    onto : drop k way ≡ a ∷ drop (k + 1) way
-    onto = rest-first way k more ∙ ap (λ (b : ℕ). b ∷ drop (k + 1) way) (sym here)
+  -- the next bucket, with the bits of its matches
+  module _ {a b : ℕ} (here : a ≡ getD way k 0) (more : k < length way) (eb : b ≡ bitsOf lift (keysIn file a)) where
+    abbrev mine : List ℕ
+    mine = selected b (keysIn file a)
 
-    pub write-sound : bucketSoundIn file a ≡ true
-    write-sound = every-first (bucketSoundIn file) a (drop (k + 1) way)
-        (ap (every (bucketSoundIn file)) (sym onto) ∙ so .sound)
+    abbrev others : List ℕ
+    others = matchesOn file lift (drop (k + 1) way)
 
-    module _ (fit : Fitting file way bits) where
-      abbrev mine : List ℕ
-      mine = selected (getD bits k 0) (keysIn file a)
+    matched : mine ≡ matching lift (keysIn file a)
+    matched = ap (λ (n : ℕ). selected n (keysIn file a)) eb ∙ select-match lift (keysIn file a)
 
-      abbrev others : List ℕ
-      others = selectedOn file (drop (k + 1) way) (drop (k + 1) bits)
+    both : matchesOn file lift (drop k way) ≡ mine ++ others
+    both = ap (matchesOn file lift) (rest-first way k more ∙ ap (λ (n : ℕ). n ∷ drop (k + 1) way) (sym here))
+        ∙ matches-first file lift a (drop (k + 1) way)
+        ∙ ap (λ (l : List ℕ). l ++ others) (sym matched)
 
-      both : selectedOn file (drop k way) (drop k bits) ≡ mine ++ others
-      both = ap₂ (selectedOn file) onto (rest-first bits k (omega (arith, fit .long)))
-          ∙ selected-first file a (drop (k + 1) way) (getD bits k 0) (drop (k + 1) bits)
+    lengths : length (matchesOn file lift (drop k way)) ≡ length mine + length others
+    lengths = ap length both ∙ length-append mine others
 
-      lengths : length (selectedOn file (drop k way) (drop k bits)) ≡ length mine + length others
-      lengths = ap length both ∙ length-append mine others
+    -- there are no more bits than keys
+    pub write-few : b < 2 ^ length (keysIn file a)
+    write-few = rw eb (bits-few lift (keysIn file a))
 
-      pub write-room : filled + length (selected (getD bits k 0) (keysIn file a)) ≤ length now
-      write-room = omega (arith, so .room, lengths)
+    pub write-room : filled + length (selected b (keysIn file a)) ≤ length now
+    write-room = omega (arith, so .room, lengths)
 
-      pub write-more : {end : ℕ} {then : List ℕ}
-          → (end ≡ filled + length (selected (getD bits k 0) (keysIn file a)))
-          × (then ≡ edit filled (selected (getD bits k 0) (keysIn file a)) now)
-          → Written file way bits old (k + 1) end then
-      write-more {end} {then} (ef, et) = record {
-        within = omega arith;
-        full = kept ∙ so .full;
-        sound = sym (every-next (bucketSoundIn file) a (drop (k + 1) way) write-sound)
-            ∙ ap (every (bucketSoundIn file)) (sym onto) ∙ so .sound;
-        room = omega (arith, so .room, lengths, kept);
-        is = ap₂ (λ (n : ℕ) (l : List ℕ). edit n others l) ef et
-            ∙ edit-next filled mine others now (omega (arith, so .room, lengths))
-            ∙ ap (λ (l : List ℕ). edit filled l now) (sym both) ∙ so .is;
-      }
-        where
-          kept : length then ≡ length now
-          kept = ap length et ∙ length-edit filled mine now write-room
+    pub write-more : {end : ℕ} {then : List ℕ}
+        → (end ≡ filled + length (selected b (keysIn file a)))
+        × (then ≡ edit filled (selected b (keysIn file a)) now)
+        → Written file lift way old (k + 1) end then
+    write-more {end} {then} (ef, et) = record {
+      full = kept ∙ so .full;
+      room = omega (arith, so .room, lengths, kept);
+      is = ap₂ (λ (n : ℕ) (l : List ℕ). edit n others l) ef et
+          ∙ edit-next filled mine others now (omega (arith, so .room, lengths))
+          ∙ ap (λ (l : List ℕ). edit filled l now) (sym both) ∙ so .is;
+    }
+      where
+        kept : length then ≡ length now
+        kept = ap length et ∙ length-edit filled mine now write-room

@@ -4,7 +4,7 @@
 use Prim.Native.Nat.{ℕ, _-_, _≤_, _<_}
 use mathlib.Core.Path.{_≡_, refl, sym, ap, _∙_}
 use mathlib.Core.Bool.{Bool, true, false, cond}
-use mathlib.Core.List.{List, [], _∷_}
+use mathlib.Core.List.{List}
 use mathlib.Core.Logic.{_⊎_, inl, inr, ⊎-elim}
 use native.Mathlib.Omega.{arith}
 use lib.ListN.{length, take, drop}
@@ -12,13 +12,12 @@ use Rattle.address.specs.Compare.{below, same}
 use Rattle.address.specs.Limits.{firstBuckets, noBucket}
 use Rattle.address.specs.Rules.{lastRound, highest}
 use Rattle.address.specs.Rules.Address.{address-exists}
-use Rattle.address.specs.Rules.Route.{Below}
-use Rattle.address.specs.Rules.Scan.{times, times-here, times-there, rounds}
+use Rattle.address.specs.Rules.Scan.{times, rounds}
 use Rattle.layout.specs.Bytes.{edit}
 use Rattle.layout.specs.Bytes.Edit.{front-written, rest-left}
 use Rattle.layout.specs.Replies.{reply}
 use Rattle.bucket.specs.Region.{every}
-use Rattle.bucket.specs.Region.Every.{every-among, every-below}
+use Rattle.bucket.specs.Region.Every.{every-among}
 use Rattle.client.specs.Table.{imageOf}
 use Rattle.file.specs.File.{stateOf, bucketsOf, bucketSoundIn, fileSound}
 use Rattle.file.specs.File.Judge.{existing}
@@ -30,18 +29,7 @@ use Rattle.scan.specs.Scan.{collected, scan}
 use Rattle.scan.specs.Scan.Found.{own, once, elsewhere, held-times, other-times, visited}
 use Rattle.scan.specs.Scan.Replied.{acceptance, collected-unsound, collected-short, collected-done}
 use Rattle.scan.specs.Scan.Replied.{scan-early, scan-short, scan-long}
-use Rattle.scan.specs.Scan.Way.{way-length, way-once, way-only}
-
--- a way on which no number from a bound on stands is below it
-below-all : (most : ℕ) (way : List ℕ) → ((a : ℕ) → most ≤ a → times a way ≡ 0) → Below most way
-below-all most [] low = tt
-below-all most (a ∷ way) low = (
-  ⊎-elim (λ h. h) (λ past. absurd (omega (arith, low a past, times-here a a way refl))) (below a most),
-  below-all most way (λ b past. omega (arith, low b past, later b)),
-)
-  where
-    later : (b : ℕ) → times b way ≤ times b (a ∷ way)
-    later b = ⊎-elim (λ e. omega (arith, times-here b a way e)) (λ e. omega (arith, times-there b a way e)) (same b a)
+use Rattle.scan.specs.Scan.Way.{way-length, way-once, way-only, way-sound}
 
 module _ (file table : List ℕ) (client lift : ℕ) (visits matches : List ℕ) where
   abbrev way : List ℕ
@@ -104,7 +92,7 @@ module _ (file table : List ℕ) (client lift : ℕ) (visits matches : List ℕ)
                 passes = passed file table client zero;
                 long = long;
                 sound = fine;
-                is = sym (along long (collected-done file lift way visits matches fine room refl refl refl));
+                is = sym (along long (collected-done file lift way visits matches fine room refl refl refl refl));
               }))
               (below (length matches) (length keys))
 
@@ -145,8 +133,8 @@ module _ (file table : List ℕ) (client lift : ℕ) (visits matches : List ℕ)
 
     -- in a sound file it has no unsound bucket
     pub scan-file-sound : fileSound file ≡ true → every (bucketSoundIn file) way ≡ true
-    scan-file-sound sound = every-below (bucketSoundIn file) (bucketsOf file) (sound-bucket file sound) way
-        (below-all (bucketsOf file) way visits-only)
+    scan-file-sound sound = way-sound file (passes .header-sound) (imageOf table client)
+        (believes file table client passes) (near file table client passes) (sound-bucket file sound)
 
     -- and its last round is at most the highest bucket level less i'
     pub scan-rounds : lastRound firstBuckets (stateOf file) (imageOf table client)

@@ -6,11 +6,11 @@ use mathlib.Core.Bool.{Bool, true, false, cond, not}
 use mathlib.Core.List.{List, [], _∷_, _++_}
 use borrow.Author.Tests.{eq-eqb, ne-eqb, lt-ltb, le-ltb, not-true, not-false}
 use lib.Dec.{ltb, eqb}
-use lib.ListN.{length, take}
+use lib.ListN.{length}
 use native.Mathlib.Omega.{arith}
 use Rattle.address.specs.Limits.{firstBuckets, noBucket}
 use Rattle.address.specs.declared.Image.{Image}
-use Rattle.address.specs.Rules.{buckets, visits}
+use Rattle.address.specs.Rules.{buckets}
 use Rattle.layout.specs.Bytes.{edit}
 use Rattle.layout.specs.Replies.{refuse, reply, reply-none, reply-here, reply-past, reply-append}
 use Rattle.bucket.specs.Region.{every}
@@ -21,10 +21,10 @@ use Rattle.file.specs.declared.Header.{Header}
 use Rattle.route.specs.Way.{early}
 use Rattle.route.specs.Way.Open.{Opening, early-else}
 use Rattle.scan.specs.declared.ScanAnswer.{ScanAnswer}
-use Rattle.scan.specs.Scan.Bits.{selectedOn, noted-match}
-use Rattle.scan.specs.Scan.Fill.{Fitting, noted-fits}
-use Rattle.scan.specs.Scan.Tally.{WayJudged}
-use Rattle.scan.specs.Scan.Way.{Starting, starting-visits}
+use Rattle.scan.specs.Scan.Notes.{Noted}
+use Rattle.scan.specs.Scan.Tally.{Judged, matches-all}
+use Rattle.scan.specs.Scan.Unsound.{Lowest, lowest-visited}
+use Rattle.scan.specs.Scan.Way.{Starting, starting-sound}
 use Rattle.scan.specs.Scan.{Scanned, leaving, matchesOn, visitsOf, firstUnsound, refusal, refused, collected}
 use Rattle.scan.specs.Scan.{scan}
 
@@ -51,64 +51,52 @@ module _ (file : List ℕ) (lift : ℕ) (way visits matches : List ℕ) where
     collected-short er short = rw (fine, lt-ltb (length matches) (length keys) short)
         (λ i. leaving (er i) visits matches)
 
-    pub collected-done : length (matchesOn file lift way) ≤ length matches → {m : ℕ} {first second : List ℕ}
-        → m ≡ length (matchesOn file lift way)
+    pub collected-done : length (matchesOn file lift way) ≤ length matches → {n m : ℕ} {first second : List ℕ}
+        → n ≡ length way → m ≡ length (matchesOn file lift way)
         → first ≡ edit 0 way visits → second ≡ edit 0 (matchesOn file lift way) matches
-        → leaving (acceptance (length way) m) first second ≡ collected file lift way visits matches
+        → leaving (acceptance n m) first second ≡ collected file lift way visits matches
     unfolding collected
-    collected-done room em ef es = rw (fine, le-ltb (length matches) (length keys) room)
-        (λ i. leaving (acceptance (length way) (em i)) (ef i) (es i))
+    collected-done room en em ef es = rw (fine, le-ltb (length matches) (length keys) room)
+        (λ i. leaving (acceptance (en i) (em i)) (ef i) (es i))
 
--- by the tally of the way
-module _ {file : List ℕ} {lift : ℕ} {way : List ℕ} {sound : Bool} {bucket m : ℕ} {bits : List ℕ}
-    (judged : WayJudged file lift way sound bucket m bits) where
-  pub judged-unsound : {r : ScanAnswer} (visits matches : List ℕ) → not sound ≡ true → r ≡ refusal 7 bucket
-      → leaving r visits matches ≡ collected file lift way visits matches
-  judged-unsound visits matches failed er =
-      let bad = not-true sound failed in
-      collected-unsound file lift way visits matches er (sym (judged .all) ∙ bad) (judged .first bad)
+-- by the tally of all buckets
+module _ {file : List ℕ} {header : Header} {image : Image} (given : Starting file header image) {lift : ℕ}
+    {sound : Bool} {lowest m : ℕ} {notes : List ℕ} (judged : Judged file lift sound lowest m notes) where
+  module _ (failed : not sound ≡ true) where
+    pub judged-lowest : Lowest file lowest
+    judged-lowest = judged .unsound (not-true sound failed)
+
+    pub judged-unsound : {r : ScanAnswer} {a : ℕ} (visits matches : List ℕ)
+        → a ≡ firstUnsound file (visitsOf file image) → r ≡ refusal 7 a
+        → leaving r visits matches ≡ collected file lift (visitsOf file image) visits matches
+    judged-unsound visits matches first er =
+        collected-unsound file lift (visitsOf file image) visits matches er (lowest-visited given judged-lowest) first
 
   module _ (passed : not sound ≡ false) where
-    fine : sound ≡ true
-    fine = not-false sound passed
+    pub judged-noted : Noted file lift notes (bucketsOf file)
+    judged-noted = judged .noted (not-false sound passed)
 
-    pub judged-sound : every (bucketSoundIn file) way ≡ true
-    judged-sound = sym (judged .all) ∙ fine
+    fine : every (bucketSoundIn file) (visitsOf file image) ≡ true
+    fine = starting-sound given (judged-noted .sound)
+
+    count : m ≡ length (matchesOn file lift (visitsOf file image))
+    count = judged .found (not-false sound passed) ∙ matches-all given lift
 
     pub judged-short : {r : ScanAnswer} (visits matches : List ℕ) → length matches < m → r ≡ refusal 12 noBucket
-        → leaving r visits matches ≡ collected file lift way visits matches
+        → leaving r visits matches ≡ collected file lift (visitsOf file image) visits matches
     judged-short visits matches short er =
-        collected-short file lift way visits matches judged-sound er (omega (arith, judged .found fine))
+        collected-short file lift (visitsOf file image) visits matches fine er (omega (arith, count))
 
-    -- where the list of bits was long enough
-    module _ (old : List ℕ) (same : length bits ≡ length old) (enough : length way ≤ length old) where
-      long : length way ≤ length bits
-      long = omega arith
+    module _ (matches : List ℕ) (room : m ≤ length matches) where
+      pub judged-room : length (matchesOn file lift (visitsOf file image)) ≤ length matches
+      judged-room = omega (arith, count)
 
-      is : selectedOn file way bits ≡ matchesOn file lift way
-      is = noted-match file lift way bits long (judged .noted fine)
-
-      pub judged-fits : Fitting file way bits
-      judged-fits = noted-fits file lift way bits long (judged .noted fine)
-
-      module _ (matches : List ℕ) (room : m ≤ length matches) where
-        pub judged-room : length (selectedOn file way bits) ≤ length matches
-        judged-room = omega (arith, judged .found fine, ap length is)
-
-        pub judged-done : {first second : List ℕ} (visits : List ℕ) → first ≡ edit 0 way visits
-            → second ≡ edit 0 (selectedOn file way bits) matches
-            → leaving (acceptance (length way) m) first second ≡ collected file lift way visits matches
-        judged-done visits ef es = collected-done file lift way visits matches judged-sound
-            (omega (arith, judged .found fine)) (judged .found fine) ef (es ∙ ap (λ (l : List ℕ). edit 0 l matches) is)
-
--- along the list that was filled
-pub collected-along : {file : List ℕ} {header : Header} {image : Image} → Starting file header image
-    → (queue : List ℕ) {n : ℕ} → n ≡ buckets firstBuckets (header .state)
-    → take (buckets firstBuckets (header .state)) queue ≡ visits firstBuckets (header .state) image
-    → (lift : ℕ) (first second : List ℕ) {o : Scanned} → o ≡ collected file lift (take n queue) first second
-    → o ≡ collected file lift (visitsOf file image) first second
-collected-along {file} given queue {n} en filled lift first second eo = eo
-    ∙ ap (λ (way : List ℕ). collected file lift way first second) (starting-visits given queue n en filled)
+      pub judged-done : {n : ℕ} {first second : List ℕ} (visits : List ℕ) → n ≡ length (visitsOf file image)
+          → first ≡ edit 0 (visitsOf file image) visits
+          → second ≡ edit 0 (matchesOn file lift (visitsOf file image)) matches
+          → leaving (acceptance n m) first second ≡ collected file lift (visitsOf file image) visits matches
+      judged-done visits en ef es =
+          collected-done file lift (visitsOf file image) visits matches fine judged-room en count ef es
 
 -- ---- the scan of a file
 

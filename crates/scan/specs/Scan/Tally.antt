@@ -1,4 +1,5 @@
--- Judging and counting: what is left to judge and to count of the way is judged and counted as the whole, turn by turn.
+-- Judging and counting, in number order: what is counted so far and what is left make the sum over all buckets, which is
+-- the count of a visit order's matches.
 use Prim.Native.Nat.{ℕ, suc, _+_, _-_, _*_, _/_, _≤_, _<_}
 use mathlib.Core.Path.{_≡_, refl, sym, ap, _∙_}
 use mathlib.Core.Bool.{Bool, true, false, cond, not, true≢false}
@@ -7,20 +8,22 @@ use native.Mathlib.Omega.{arith}
 use borrow.Author.Tests.{not-true, not-false}
 use lib.Dec.{eqb}
 use lib.Count.{ones}
-use lib.ListN.{length, getD, drop, set, length-append, length-set}
-use Rattle.address.specs.Limits.{noBucket, mostSlots}
+use lib.ListN.{length, getD, drop, set, length-append}
+use Rattle.address.specs.Limits.{firstBuckets, noBucket, mostSlots}
+use Rattle.address.specs.declared.Image.{Image}
+use Rattle.address.specs.Rules.{buckets, numbers}
+use Rattle.address.specs.Rules.Sums.{sumOf, sum-none, sum-cons, sum-more, sum-done, visits-sum}
 use Rattle.bucket.specs.Region.{countOf, keyAt}
 use Rattle.bucket.specs.Region.Keep.{keys-count, keys-at}
-use Rattle.bucket.specs.Region.Every.{every-fails, every-next, every-none}
-use Rattle.file.specs.File.{regionOf, bucketSoundIn}
-use Rattle.file.specs.File.Judge.{Known}
-use Rattle.file.specs.File.Region.{sound-few}
+use Rattle.file.specs.File.{stateOf, regionOf, bucketsOf, bucketSoundIn}
+use Rattle.file.specs.File.Judge.{Known, existing}
+use Rattle.file.specs.File.Region.{sound-few, buckets-known}
 use Rattle.file.specs.declared.Header.{Header}
-use Rattle.bucket.specs.Region.{every}
-use Rattle.scan.specs.Scan.{ofLift, matching, keysIn, matchesOn, firstUnsound}
-use Rattle.scan.specs.Scan.Bits.{bitsOf, bits-count, Tested, test-none, test-more, test-room, Noted}
-use Rattle.scan.specs.Scan.Bits.{note-more}
-use Rattle.scan.specs.Scan.Way.{Way, rest-first, rest-none}
+use Rattle.scan.specs.Scan.{ofLift, matching, keysIn, matchesOn, visitsOf}
+use Rattle.scan.specs.Scan.Bits.{bitsOf, bits-count, Tested, test-none, test-more, test-room}
+use Rattle.scan.specs.Scan.Notes.{Noted, note-none, note-more, noted-fewer}
+use Rattle.scan.specs.Scan.Unsound.{Lowest}
+use Rattle.scan.specs.Scan.Way.{Starting}
 
 -- ---- the matching ones of some keys
 
@@ -88,7 +91,7 @@ module _ (file : List ℕ) (a : ℕ) {lift k bits : ℕ} (so : Tested lift (keys
     pub tested-room : {header : Header} → Known file header → bucketSoundIn file a ≡ true → bits < 9223372036854775808
     tested-room seen sound = test-room so some (keys-few seen a sound)
 
--- ---- the buckets of a way, judged and counted
+-- ---- the matches of a way
 
 pub matches-first : (file : List ℕ) (lift a : ℕ) (way : List ℕ)
     → matchesOn file lift (a ∷ way) ≡ matching lift (keysIn file a) ++ matchesOn file lift way
@@ -99,122 +102,111 @@ pub matches-none : (file : List ℕ) (lift : ℕ) → matchesOn file lift [] ≡
 unfolding matchesOn
 matches-none file lift = refl
 
-pub unsound-here : (file : List ℕ) (a : ℕ) (way : List ℕ) → bucketSoundIn file a ≡ false
-    → firstUnsound file (a ∷ way) ≡ a
-unfolding firstUnsound
-unsound-here file a way h = rw h
+-- how many keys of a bucket match
+abbrev pub matchesIn : List ℕ → ℕ → ℕ → ℕ
+matchesIn file lift a = length (matching lift (keysIn file a))
 
-pub unsound-later : (file : List ℕ) (a : ℕ) (way : List ℕ) → bucketSoundIn file a ≡ true
-    → firstUnsound file (a ∷ way) ≡ firstUnsound file way
-unfolding firstUnsound
-unsound-later file a way h = rw h
+-- a way has as many matches as its buckets together
+matches-sum : (file : List ℕ) (lift : ℕ) (way : List ℕ)
+    → sumOf (matchesIn file lift) way ≡ length (matchesOn file lift way)
+matches-sum file lift [] = sum-none (matchesIn file lift) ∙ sym (ap length (matches-none file lift))
+matches-sum file lift (a ∷ way) = omega (
+  arith,
+  sum-cons (matchesIn file lift) a way,
+  matches-sum file lift way,
+  ap length (matches-first file lift a way),
+  length-append (matching lift (keysIn file a)) (matchesOn file lift way),
+)
 
--- what a tally tells of a way
-pub record WayJudged (file : List ℕ) (lift : ℕ) (way : List ℕ) (sound : Bool) (bucket matches : ℕ) (bits : List ℕ)
-    : Type 0 where
-  pub all : sound ≡ every (bucketSoundIn file) way
-  pub first : sound ≡ false → bucket ≡ firstUnsound file way
-  pub found : sound ≡ true → matches ≡ length (matchesOn file lift way)
-  pub noted : sound ≡ true → Noted file lift way bits (length way)
+-- and so a visit order as many as all buckets
+pub matches-all : {file : List ℕ} {header : Header} {image : Image} → Starting file header image → (lift : ℕ)
+    → sumOf (matchesIn file lift) (numbers 0 (bucketsOf file)) ≡ length (matchesOn file lift (visitsOf file image))
+unfolding visitsOf
+matches-all {file} {header} {image} given lift =
+    ap (λ (n : ℕ). sumOf (matchesIn file lift) (numbers 0 n)) (existing file)
+    ∙ sym (visits-sum firstBuckets (omega arith) (stateOf file) (given .known .ranges .formed) image (given .formed)
+    (given .behind) (matchesIn file lift))
+    ∙ matches-sum file lift (visitsOf file image)
 
--- the judging loop: what is left of the way is judged and counted as the whole, and of the buckets before it is noted
--- which keys match
-pub record Tallied (file : List ℕ) (lift : ℕ) (way : List ℕ) (k found : ℕ) (bits : List ℕ) : Type 0 where
-  pub within : k ≤ length way
-  pub long : length way ≤ length bits
+-- ---- the buckets, judged and counted in number order
+
+-- what a tally tells of all buckets
+pub record Judged (file : List ℕ) (lift : ℕ) (sound : Bool) (lowest matches : ℕ) (notes : List ℕ) : Type 0 where
+  pub unsound : sound ≡ false → Lowest file lowest
+  pub noted : sound ≡ true → Noted file lift notes (bucketsOf file)
+  pub found : sound ≡ true → matches ≡ sumOf (matchesIn file lift) (numbers 0 (bucketsOf file))
+
+-- the judging loop: the buckets before are sound and noted, and the matches found and those of the buckets that are
+-- left are all
+pub record Tallied (file : List ℕ) (lift k found : ℕ) (notes : List ℕ) : Type 0 where
   pub few : found ≤ mostSlots * k
-  pub sound : every (bucketSoundIn file) (drop k way) ≡ every (bucketSoundIn file) way
-  pub first : firstUnsound file (drop k way) ≡ firstUnsound file way
-  pub counted : found + length (matchesOn file lift (drop k way)) ≡ length (matchesOn file lift way)
-  pub noted : Noted file lift way bits k
+  pub counted : found + sumOf (matchesIn file lift) (numbers k (bucketsOf file - k))
+      ≡ sumOf (matchesIn file lift) (numbers 0 (bucketsOf file))
+  pub noted : Noted file lift notes k
 
-pub tally-none : (file : List ℕ) (lift : ℕ) (way bits : List ℕ) → length way ≤ length bits
-    → Tallied file lift way 0 0 bits
-tally-none file lift way bits long =
-    record {
-      within = omega arith;
-      long = long;
-      few = omega arith;
-      sound = refl;
-      first = refl;
-      counted = omega arith;
-      noted = λ i h. absurd (omega arith);
-    }
+pub tally-none : (file : List ℕ) (lift : ℕ) (notes : List ℕ) → Tallied file lift 0 0 notes
+tally-none file lift notes = record { few = omega arith; counted = omega (arith, all); noted = note-none file lift notes }
+  where
+    same : bucketsOf file - 0 ≡ bucketsOf file
+    same = omega arith
 
-module _ {file : List ℕ} {lift : ℕ} {way : List ℕ} {k found : ℕ} {bits : List ℕ}
-    (so : Tallied file lift way k found bits) where
-  pub tally-done : length way ≤ k → WayJudged file lift way true noBucket found bits
+    all : sumOf (matchesIn file lift) (numbers 0 (bucketsOf file - 0))
+        ≡ sumOf (matchesIn file lift) (numbers 0 (bucketsOf file))
+    all = ap (λ (n : ℕ). sumOf (matchesIn file lift) (numbers 0 n)) same
+
+module _ {file : List ℕ} {header : Header} (seen : Known file header) {n : ℕ}
+    (en : n ≡ buckets firstBuckets (header .state)) {lift k found : ℕ} {notes : List ℕ}
+    (so : Tallied file lift k found notes) where
+  all-buckets : n ≡ bucketsOf file
+  all-buckets = buckets-known file header seen n en
+
+  pub tally-done : n ≤ k → Judged file lift true noBucket found notes
   tally-done end = record {
-    all = sym (every-none (bucketSoundIn file)) ∙ ap (every (bucketSoundIn file)) (sym (rest-none way k end))
-        ∙ so .sound;
-    first = λ h. absurd (true≢false h);
+    unsound = λ h. absurd (true≢false h);
+    noted = λ h. noted-fewer (so .noted) (bucketsOf file) (omega (arith, all-buckets));
     found = λ h. omega (
       arith,
       so .counted,
-      ap (λ (l : List ℕ). length (matchesOn file lift l)) (rest-none way k end),
-      ap length (matches-none file lift),
+      sum-done (matchesIn file lift) k (bucketsOf file) (omega (arith, all-buckets)),
     );
-    noted = λ h i l. so .noted i (omega arith);
   }
 
-  pub tally-fits : k < length way → k < length bits
-  tally-fits more = omega (arith, so .long)
-
   -- the next bucket, found sound or not
-  module _ {a : ℕ} (here : a ≡ getD way k 0) (more : k < length way) {sound : Bool}
-      (judged : sound ≡ bucketSoundIn file a) where
-    left : drop k way ≡ a ∷ drop (k + 1) way
-    left = rest-first way k more ∙ ap (λ (b : ℕ). b ∷ drop (k + 1) way) (sym here)
-
-    pub tally-stop : not sound ≡ true → WayJudged file lift way false a 0 bits
+  module _ (more : k < n) {sound : Bool} (judged : sound ≡ bucketSoundIn file k) where
+    pub tally-stop : not sound ≡ true → Judged file lift false k 0 notes
     tally-stop failed = record {
-      all = sym (every-fails (bucketSoundIn file) a (drop (k + 1) way) bad)
-          ∙ ap (every (bucketSoundIn file)) (sym left) ∙ so .sound;
-      first = λ h. sym (unsound-here file a (drop (k + 1) way) bad) ∙ ap (firstUnsound file) (sym left) ∙ so .first;
-      found = λ h. absurd (true≢false (sym h));
+      unsound = λ h. record {
+        exists = omega (arith, all-buckets);
+        bad = sym judged ∙ not-true sound failed;
+        under = so .noted .sound;
+      };
       noted = λ h. absurd (true≢false (sym h));
+      found = λ h. absurd (true≢false (sym h));
     }
-      where
-        bad : bucketSoundIn file a ≡ false
-        bad = sym judged ∙ not-true sound failed
 
-    pub tally-sound : not sound ≡ false → bucketSoundIn file a ≡ true
+    pub tally-sound : not sound ≡ false → bucketSoundIn file k ≡ true
     tally-sound passed = sym judged ∙ not-false sound passed
 
-    module _ (passed : not sound ≡ false) {header : Header} (seen : Known file header) {b : ℕ}
-        (eb : b ≡ bitsOf lift (keysIn file a)) where
-      fine : bucketSoundIn file a ≡ true
-      fine = tally-sound passed
-
-      few : length (keysIn file a) ≤ mostSlots
-      few = keys-few seen a fine
-
-      matches : ones b ≡ length (matching lift (keysIn file a))
-      matches = ap ones eb ∙ bits-count lift (keysIn file a)
+    module _ (passed : not sound ≡ false) {b : ℕ} (eb : b ≡ bitsOf lift (keysIn file k)) where
+      matches : ones b ≡ matchesIn file lift k
+      matches = ap ones eb ∙ bits-count lift (keysIn file k)
 
       most : ones b ≤ mostSlots
-      most = omega (arith, few, matches, match-few lift (keysIn file a))
+      most = omega
+          (arith, keys-few seen k (tally-sound passed), matches, match-few lift (keysIn file k))
 
       -- the count stays a number of 32 bits
-      pub tally-few : Way file way → found + ones b < 4294967296
-      tally-few along = omega (arith, most, so .few, along .few)
+      pub tally-few : found + ones b < 4294967296
+      tally-few = omega (arith, most, so .few, all-buckets, seen .ranges .few, seen .ranges .figured .few-buckets)
 
-      pub tally-more : Tallied file lift way (k + 1) (found + ones b) (set bits k b)
-      tally-more = record {
-        within = omega arith;
-        long = omega (arith, so .long, length-set bits k b);
+      pub tally-more : {after : List ℕ} → after ≡ set notes k b → Tallied file lift (k + 1) (found + ones b) after
+      tally-more {after} e = record {
         few = omega (arith, so .few, most);
-        sound = sym (every-next (bucketSoundIn file) a (drop (k + 1) way) fine)
-            ∙ ap (every (bucketSoundIn file)) (sym left) ∙ so .sound;
-        first = sym (unsound-later file a (drop (k + 1) way) fine) ∙ ap (firstUnsound file) (sym left) ∙ so .first;
         counted = omega (
           arith,
           so .counted,
           matches,
-          ap (λ (l : List ℕ). length (matchesOn file lift l)) left,
-          ap length (matches-first file lift a (drop (k + 1) way)),
-          length-append (matching lift (keysIn file a)) (matchesOn file lift (drop (k + 1) way)),
+          sum-more (matchesIn file lift) k (bucketsOf file) (omega (arith, all-buckets)),
         );
-        noted = note-more file lift way bits k (so .noted) (omega (arith, so .long)) b
-            (eb ∙ ap (λ (c : ℕ). bitsOf lift (keysIn file c)) here);
+        noted = rw e (note-more (so .noted) (tally-sound passed) b eb);
       }

@@ -1,18 +1,15 @@
--- `order::visit_order`: the list holds all messages sent so far, of which the first ones are handled; each turn handles
--- one and writes what it sends. Once all buckets have had their turn, the list is the visits.
+-- `order::fill_visits`: the list holds all messages sent so far, of which the first ones are handled; each turn handles
+-- one and writes what it sends. Once all buckets have had their turn, the visits stand in the list.
 use borrow.Author.Needs.{needs}
 use Prim.Native.Nat.{_-_, _≤_}
-use mathlib.Core.Path.{_≡_, refl}
 use native.Mathlib.Omega.{arith}
-use lib.ListN.{length}
-use Rattle.order.specs.Queue.{Visiting, visiting-start, visiting-turn, visiting-done}
-use Rattle.order.specs.Queue.{turn-low, turn-room, turn-children}
-use Rattle.order.proofs.visit_order.Statement.{statement}
-use Rattle.order.proofs.visit_order.Tie as tie
+use Rattle.order.specs.Queue.{Visiting, visiting-start, visiting-room, visiting-next, visiting-done}
+use Rattle.order.proofs.fill_visits.Statement.{statement}
+use Rattle.order.proofs.fill_visits.Tie as tie
 
 abbrev Inv-loop : tie.InvT-loop
-Inv-loop state image queue₀ count tail₀ handled₀ queue tail handled = (handled ≤ count) × (length queue ≡ length queue₀)
-    × Visiting state image queue tail handled
+Inv-loop state image queue₀ count tail₀ handled₀ queue tail handled = (handled ≤ count)
+    × Visiting state image queue₀ tail₀ queue tail handled
 
 abbrev μ-loop : tie.MeasureT-loop
 μ-loop state image queue₀ count tail₀ handled₀ queue tail handled = count - handled
@@ -33,7 +30,7 @@ send-first-requires : tie.Need-send-first-requires Inv-loop μ-loop
 send-first-requires c κs = search needs
 
 loop-holds : tie.Need-loop-holds Inv-loop μ-loop
-loop-holds c = (omega arith, refl, search visiting-start)
+loop-holds c = (omega arith, search visiting-start)
 
 mul-bucket : tie.Need-mul-bucket Inv-loop μ-loop
 mul-bucket c = search needs
@@ -51,7 +48,11 @@ level-of-requires : tie.Need-level-of-requires Inv-loop μ-loop
 level-of-requires c κs = search needs
 
 send-on-requires : tie.Need-send-on-requires Inv-loop μ-loop
-send-on-requires c κs = (search turn-low, search turn-room, search turn-children)
+send-on-requires c κs =
+    let turn = c .before .before .before .before in
+    let begun = turn .before .before .before .before in
+    visiting-room (turn .before .loop .inv .1) (begun .before .before .before .buckets .ensures)
+    (turn .loop-test .taken) (c .before .before .message-level .ensures) (c .before .level-of .ensures)
 
 add-handled : tie.Need-add-handled Inv-loop μ-loop
 add-handled c = search needs
@@ -61,16 +62,13 @@ loop-less c = search needs
 
 loop-again : tie.Need-loop-again Inv-loop μ-loop
 loop-again c =
-    let sent = c .before .before in
-    let told = sent .before .before .before in
-    let test = told .before .before in
-    let first = test .before .before .before .before in
-    let all = first .before .before .before in (
+    let sent = c .before .before .before in
+    let turn = sent .before .before .before .before in
+    let begun = turn .before .before .before .before in (
       omega arith,
-      omega (arith, sent .send-on .kept),
-      visiting-turn (all .before .before .pre .0) (test .before .loop .inv .2) (all .buckets .ensures)
-          (test .loop-test .taken) (told .message-level .ensures) (sent .before .before .level-of .ensures)
-          (sent .send-on .ensures) (sent .send-on .kept .1 .1 .1 .1 .0),
+      visiting-next (turn .before .loop .inv .1) (begun .before .before .before .buckets .ensures)
+          (turn .loop-test .taken) (sent .before .before .message-level .ensures) (sent .before .level-of .ensures)
+          (c .before .before .send-on .ensures .0) (c .before .before .send-on .ensures .1),
     )
 
 same-length : tie.Need-same-length Inv-loop μ-loop
@@ -79,8 +77,8 @@ same-length c = search needs
 returns : tie.Need-returns Inv-loop μ-loop
 returns c = search visiting-done
 
-pub visit-order-spec : {M : Type 1} → statement M
-visit-order-spec =
+pub fill-visits-spec : {M : Type 1} → statement M
+fill-visits-spec =
     tie.close
     (tie.spec
     Inv-loop
