@@ -1,4 +1,4 @@
--- AllOf rule by its cases, over N and the state. From here on no rule is unfolded again.
+-- Each rule by its cases, over N and the state. From here on no rule is unfolded again.
 use Prim.Native.Nat.{ℕ, suc, _+_, _-_, _≤_, _<_}
 use mathlib.Core.Path.{_≡_, refl, sym, ap, _∙_}
 use mathlib.Core.Bool.{Bool, true, false}

@@ -206,7 +206,7 @@ numbers-each P a (suc c) f =
 
 -- ---- the visits are in this order
 
--- AllOf bucket of a list is before all that follow it.
+-- Each bucket of a list is before all that follow it.
 abbrev pub Ordered : ℕ → ℕ → List ℕ → Type 0
 Ordered N believed [] = Unit {0}
 Ordered N believed (x ∷ xs) = AllOf (λ y. earlier N believed x y ≡ true) xs × Ordered N believed xs
