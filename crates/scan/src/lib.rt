@@ -16,7 +16,7 @@ ghost use Rattle.scan.specs.Scan.{ofLift, keysIn, matchesOn, visitsOf, f
 ghost use Rattle.scan.specs.Scan.{scan};
 ghost use Rattle.scan.specs.Scan.Bits.{bitsOf, selected};
 ghost use Rattle.scan.specs.Scan.Notes.{Noted};
-ghost use Rattle.scan.specs.Scan.Tally.{Judged};
+ghost use Rattle.scan.specs.Scan.Tally.{AllJudged};
 ghost use Rattle.scan.specs.Scan.Unsound.{unsound, Lowest};
 ghost use Rattle.scan.specs.Scan.Way.{Starting, Way};
 
@@ -98,7 +98,7 @@ fn bits_of(file: &[u8], header: Header, bucket: u32, lift: u32, notes: &[u64]) -
 // are sound.
 fn judge_all(file: &[u8], header: Header, lift: u32, notes: &mut [u64]) -> Tally
     requires { ⌜ Known (now file) header ⌝ }
-    ensures { λ r. ⌜ Judged (now (file .entry)) lift (r .sound) (r .lowest) (r .matches) (now (notes .exit)) ⌝ }
+    ensures { λ r. ⌜ AllJudged (now (file .entry)) lift (r .sound) (r .lowest) (r .matches) (now (notes .exit)) ⌝ }
 {
     let buckets = address::buckets(FIRST_BUCKETS, header.state);
     let mut matches = 0;

@@ -14,16 +14,15 @@ use lib.ListN.{length, getD, List·getD-append}
 use lib.Seq.{take-all, append-snoc}
 use Rattle.address.specs.Compare.{below, same}
 use Rattle.address.specs.declared.Image.{Image}
-use Rattle.address.specs.Rules.{Formed, NotAhead, span, buckets, hash, level, child, numbers, visits}
+use Rattle.address.specs.Rules.{Formed, NotAhead, span, buckets, level, child, numbers, visits}
 use Rattle.address.specs.Rules.{parent, apart, earlierWithin, earlier}
-use Rattle.address.specs.Rules.Hash.{span-is, span-suc, span-mono, span-pos, span-above, hash-lt, hash-small}
-use Rattle.address.specs.Rules.Hash.{hash-suc, hash-hash}
+use Rattle.address.specs.Rules.Hash.{span-is, span-suc, span-mono, span-pos, span-above}
 use Rattle.address.specs.Rules.Cases.{buckets-is, child-is}
-use Rattle.address.specs.Rules.Address.{address-own, address-number, level-spans}
+use Rattle.address.specs.Rules.Address.{level-spans}
 use Rattle.address.specs.Rules.Parent.{parent-of}
 use Rattle.address.specs.Rules.Scan.{times, times-none, times-here, times-there, visits-only, visits-length}
 use Rattle.address.specs.Rules.Order.{born, born-cons, born-none, Told, Scanning, scanning-start, scanning-few}
-use Rattle.address.specs.Rules.Order.{scanning-waits, scanning-next, scanning-done}
+use Rattle.address.specs.Rules.Order.{scanning-waits, scanning-next, scanning-done, child-later}
 
 -- ---- which of two buckets is first, by its cases
 
@@ -328,39 +327,6 @@ module _ (N : ℕ) (positive : 0 < N) (file : Image) (formed : Formed N file)
             high,
           )
 
-  -- the client does not believe in a child of a level that it did not tell: in its image, h of the child is the bucket
-  child-past : (a l k : ℕ) → Told N image a l → a < span N l → l ≤ k → buckets N image ≤ child N a k
-  child-past a l k told low up = ⊎-elim (λ h. absurd (never h)) (λ h. h) (below (child N a k) (buckets N image))
-    where
-      c : ℕ
-      c = child N a k
-
-      is : c ≡ a + span N k
-      is = child-is N a k
-
-      at-level : hash N k c ≡ a
-      at-level = ⊎-elim
-          (λ e. absurd (omega (arith, e, whole, is, hash-lt N positive k c)))
-          (λ e. omega (arith, e, whole, is))
-          (hash-suc N positive k c)
-        where
-          whole : hash N (suc k) c ≡ c
-          whole = hash-small N (suc k) (omega (arith, is, span-suc N k, span-mono N up))
-
-      never : c < buckets N image → ⊥
-      never h =
-          let there : a < buckets N image = omega (arith, is) in
-          let own : hash N (level N image a) c ≡ a =
-          ap (λ (j : ℕ). hash N j c) (sym (told .believed there)) ∙ sym (hash-hash N positive up c)
-          ∙ ap (hash N l) at-level ∙ hash-small N l low in
-          omega (
-            arith,
-            is,
-            span-pos N positive k,
-            address-own N positive image imageFormed a c there .1 own,
-            address-number N positive image imageFormed c h,
-          )
-
   -- The first h of the buckets that were sent a message have handled theirs: a bucket is believed in or was born of one
   -- of them.
   abbrev Caused : ℕ → List ℕ → ℕ → Type 0
@@ -388,7 +354,7 @@ module _ (N : ℕ) (positive : 0 < N) (file : Image) (formed : Formed N file)
     queued-next a l c ea told low next = record {
       under-way = next;
       order = born-ordered N positive (buckets N image) (first-believed N image) a c l sent low
-          (λ k up. child-past a l k told low up) (so .order)
+          (λ k up. child-later N image imageFormed a l k told up) (so .order)
           (each-map (Caused h sent) (Sooner N positive (buckets N image) (first-believed N image) a (child N a l))
           sooner sent
           (so .caused));

@@ -102,7 +102,7 @@ told-append N image (m ∷ p) q tp tq = (tp .0, told-append N image p q (tp .1) 
 
 module _ (N : ℕ) (image : Image) (imageFormed : Formed N image) where
   -- the client does not believe in a child of a level that it did not tell
-  child-later : (a m k : ℕ) → Told N image a m → m ≤ k → buckets N image ≤ child N a k
+  pub child-later : (a m k : ℕ) → Told N image a m → m ≤ k → buckets N image ≤ child N a k
   child-later a m k t up = go (below a (buckets N image)) (below a (image .pointer)) (below a (span N (image .level)))
     where
       spans : {j : ℕ} → level N image a ≡ j → a < buckets N image → span N j ≤ span N k

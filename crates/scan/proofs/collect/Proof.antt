@@ -1,6 +1,7 @@
 -- `scan::collect` refuses by the tally, 7 and then 12, and otherwise writes both lists.
 use borrow.Author.Needs.{needs}
-use Rattle.scan.specs.Scan.Replied.{judged-lowest, judged-unsound, judged-noted, judged-short, judged-room, judged-done}
+use Rattle.scan.specs.Scan.Replied.{judged-lowest, judged-unsound, judged-noted, judged-short, judged-room}
+use Rattle.scan.specs.Scan.Replied.{judged-done}
 use Rattle.scan.proofs.collect.Statement.{statement}
 use Rattle.scan.proofs.collect.Tie as tie
 

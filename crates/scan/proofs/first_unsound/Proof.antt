@@ -3,7 +3,8 @@
 use borrow.Author.Needs.{needs}
 use Prim.Native.Nat.{_-_}
 use Rattle.file.specs.File.Region.{known-below}
-use Rattle.scan.specs.Scan.Unsound.{Searching, searching-start, searching-next, searching-done, lowest-first, lowest-room}
+use Rattle.scan.specs.Scan.Unsound.{Searching, searching-start, searching-next, searching-done, lowest-first}
+use Rattle.scan.specs.Scan.Unsound.{lowest-room}
 use Rattle.scan.specs.Scan.Unsound.{believed-some}
 use Rattle.scan.specs.Scan.Way.{starting-image-room}
 use Rattle.scan.proofs.first_unsound.Statement.{statement}

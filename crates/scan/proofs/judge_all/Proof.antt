@@ -10,7 +10,8 @@ use Rattle.scan.proofs.judge_all.Statement.{statement}
 use Rattle.scan.proofs.judge_all.Tie as tie
 
 abbrev Inv-loop : tie.InvT-loop
-Inv-loop file header lift notes₀ buckets matches₀ bucket₀ notes matches bucket = (length notes ≡ length notes₀) × Tallied file lift bucket matches notes
+Inv-loop file header lift notes₀ buckets matches₀ bucket₀ notes matches bucket = (length notes ≡ length notes₀)
+    × Tallied file lift bucket matches notes
 
 abbrev μ-loop : tie.MeasureT-loop
 μ-loop file header lift notes₀ buckets matches₀ bucket₀ notes matches bucket = buckets - bucket

@@ -1,6 +1,7 @@
 -- `scan::put_lists`: the start of the visit list, once it is filled, is the way whose matches are written.
 use borrow.Author.Needs.{needs}
-use Rattle.scan.specs.Scan.Way.{starting-scannable, starting-fits, starting-written, starting-prefix, starting-way}
+use Rattle.scan.specs.Scan.Way.{starting-scannable, starting-fits, starting-written, starting-prefix}
+use Rattle.scan.specs.Scan.Way.{starting-way}
 use Rattle.scan.specs.Scan.Way.{starting-cut, starting-room, starting-matches, starting-count}
 use Rattle.scan.proofs.put_lists.Statement.{statement}
 use Rattle.scan.proofs.put_lists.Tie as tie

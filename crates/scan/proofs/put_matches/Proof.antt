@@ -10,7 +10,8 @@ use Rattle.scan.proofs.put_matches.Statement.{statement}
 use Rattle.scan.proofs.put_matches.Tie as tie
 
 abbrev Inv-loop : tie.InvT-loop
-Inv-loop file header way lift notes matches₀ filled₀ k₀ matches filled k = Written file lift way matches₀ k filled matches
+Inv-loop file header way lift notes matches₀ filled₀ k₀ matches filled k = Written file lift way matches₀ k filled
+    matches
 
 abbrev μ-loop : tie.MeasureT-loop
 μ-loop file header way lift notes matches₀ filled₀ k₀ matches filled k = length way - k
@@ -31,7 +32,8 @@ bits-of-requires : tie.Need-bits-of-requires Inv-loop μ-loop
 bits-of-requires c κs = (search needs, search way-exists, search needs)
 
 put-bucket-requires : tie.Need-put-bucket-requires Inv-loop μ-loop
-put-bucket-requires c κs = (search needs, search way-exists, search (noted-sound, way-exists), search write-few, search write-room)
+put-bucket-requires c κs =
+    (search needs, search way-exists, search (noted-sound, way-exists), search write-few, search write-room)
 
 add-k : tie.Need-add-k Inv-loop μ-loop
 add-k c = search needs

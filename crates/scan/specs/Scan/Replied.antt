@@ -22,7 +22,7 @@ use Rattle.route.specs.Way.{early}
 use Rattle.route.specs.Way.Open.{Opening, early-else}
 use Rattle.scan.specs.declared.ScanAnswer.{ScanAnswer}
 use Rattle.scan.specs.Scan.Notes.{Noted}
-use Rattle.scan.specs.Scan.Tally.{Judged, matches-all}
+use Rattle.scan.specs.Scan.Tally.{AllJudged, matches-all}
 use Rattle.scan.specs.Scan.Unsound.{Lowest, lowest-visited}
 use Rattle.scan.specs.Scan.Way.{Starting, starting-sound}
 use Rattle.scan.specs.Scan.{Scanned, leaving, matchesOn, visitsOf, firstUnsound, refusal, refused, collected}
@@ -61,7 +61,7 @@ module _ (file : List ℕ) (lift : ℕ) (way visits matches : List ℕ) where
 
 -- by the tally of all buckets
 module _ {file : List ℕ} {header : Header} {image : Image} (given : Starting file header image) {lift : ℕ}
-    {sound : Bool} {lowest m : ℕ} {notes : List ℕ} (judged : Judged file lift sound lowest m notes) where
+    {sound : Bool} {lowest m : ℕ} {notes : List ℕ} (judged : AllJudged file lift sound lowest m notes) where
   module _ (failed : not sound ≡ true) where
     pub judged-lowest : Lowest file lowest
     judged-lowest = judged .unsound (not-true sound failed)

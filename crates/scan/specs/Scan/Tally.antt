@@ -1,5 +1,5 @@
--- Judging and counting, in number order: what is counted so far and what is left make the sum over all buckets, which is
--- the count of a visit order's matches.
+-- Judging and counting, in number order: what is counted so far and what is left make the sum over all buckets, which
+-- is the count of a visit order's matches.
 use Prim.Native.Nat.{ℕ, suc, _+_, _-_, _*_, _/_, _≤_, _<_}
 use mathlib.Core.Path.{_≡_, refl, sym, ap, _∙_}
 use mathlib.Core.Bool.{Bool, true, false, cond, not, true≢false}
@@ -131,7 +131,7 @@ matches-all {file} {header} {image} given lift =
 -- ---- the buckets, judged and counted in number order
 
 -- what a tally tells of all buckets
-pub record Judged (file : List ℕ) (lift : ℕ) (sound : Bool) (lowest matches : ℕ) (notes : List ℕ) : Type 0 where
+pub record AllJudged (file : List ℕ) (lift : ℕ) (sound : Bool) (lowest matches : ℕ) (notes : List ℕ) : Type 0 where
   pub unsound : sound ≡ false → Lowest file lowest
   pub noted : sound ≡ true → Noted file lift notes (bucketsOf file)
   pub found : sound ≡ true → matches ≡ sumOf (matchesIn file lift) (numbers 0 (bucketsOf file))
@@ -145,7 +145,8 @@ pub record Tallied (file : List ℕ) (lift k found : ℕ) (notes : List ℕ) : T
   pub noted : Noted file lift notes k
 
 pub tally-none : (file : List ℕ) (lift : ℕ) (notes : List ℕ) → Tallied file lift 0 0 notes
-tally-none file lift notes = record { few = omega arith; counted = omega (arith, all); noted = note-none file lift notes }
+tally-none file lift notes =
+    record { few = omega arith; counted = omega (arith, all); noted = note-none file lift notes }
   where
     same : bucketsOf file - 0 ≡ bucketsOf file
     same = omega arith
@@ -160,7 +161,7 @@ module _ {file : List ℕ} {header : Header} (seen : Known file header) {n : ℕ
   all-buckets : n ≡ bucketsOf file
   all-buckets = buckets-known file header seen n en
 
-  pub tally-done : n ≤ k → Judged file lift true noBucket found notes
+  pub tally-done : n ≤ k → AllJudged file lift true noBucket found notes
   tally-done end = record {
     unsound = λ h. absurd (true≢false h);
     noted = λ h. noted-fewer (so .noted) (bucketsOf file) (omega (arith, all-buckets));
@@ -173,7 +174,7 @@ module _ {file : List ℕ} {header : Header} (seen : Known file header) {n : ℕ
 
   -- the next bucket, found sound or not
   module _ (more : k < n) {sound : Bool} (judged : sound ≡ bucketSoundIn file k) where
-    pub tally-stop : not sound ≡ true → Judged file lift false k 0 notes
+    pub tally-stop : not sound ≡ true → AllJudged file lift false k 0 notes
     tally-stop failed = record {
       unsound = λ h. record {
         exists = omega (arith, all-buckets);

@@ -2,13 +2,12 @@
 -- the next is kept.
 use Prim.Native.Nat.{ℕ, _+_, _-_, _≤_, _<_}
 use mathlib.Core.Path.{_≡_, refl, sym, ap, _∙_}
-use mathlib.Core.Bool.{Bool, true, false, not, true≢false}
+use mathlib.Core.Bool.{Bool, true, false, not}
 use mathlib.Core.List.{List, [], _∷_}
 use native.Mathlib.Omega.{arith}
 use Rattle.address.specs.Limits.{firstBuckets, noBucket}
-use Rattle.address.specs.Room.{ImageRoom}
 use Rattle.address.specs.declared.Image.{Image}
-use Rattle.address.specs.Rules.{buckets, visits, earlier}
+use Rattle.address.specs.Rules.{buckets, earlier}
 use Rattle.address.specs.Rules.Earlier.{first-believed}
 use Rattle.address.specs.Rules.First.{firstOf, first-none, first-here, first-there, better, bestFrom, best-more}
 use Rattle.address.specs.Rules.First.{best-done, first-visited, first-lowest}
