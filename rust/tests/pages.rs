@@ -26,21 +26,28 @@ fn the_header_has_the_same_replies() {
     assert_eq!(in_header, here);
 }
 
+/// What a macro of the header stands for: a number, or a sum of numbers and of other macros.
+fn number_in_c(name: &str) -> usize {
+    let define = format!("#define {name} ");
+    let text = HEADER.lines().find_map(|line| line.strip_prefix(&define)).expect(name);
+    let sum = text.split("/*").next().expect("text before a comment").trim().trim_matches(['(', ')']);
+    let parts = sum.split(" + ").map(|part| match part.trim_end_matches('u').parse() {
+        Ok(number) => number,
+        Err(_) => number_in_c(part),
+    });
+    parts.sum()
+}
+
 #[test]
 fn the_header_has_the_same_sizes() {
-    let number = |name: &str| {
-        let line = HEADER.lines().find_map(|line| line.strip_prefix("#define LHSTAR_")?.strip_prefix(name));
-        let word = line.and_then(|rest| rest.split_whitespace().next()).expect(name);
-        word.trim_end_matches('u').parse::<usize>().expect(name)
-    };
-    assert_eq!(number("NO_BUCKET "), lhstar::NO_BUCKET as usize);
-    assert_eq!(number("ANSWER_BYTES "), lhstar::ANSWER_BYTES);
-    assert_eq!(number("PAYLOAD_BYTES "), lhstar::PAYLOAD_BYTES);
-    assert_eq!(number("CLIENT_BYTES "), lhstar::CLIENT_BYTES);
-    assert_eq!(number("HEADER_BYTES "), lhstar::HEADER_BYTES);
-    assert_eq!(number("HEAD_BYTES "), lhstar::HEAD_BYTES);
-    assert_eq!(number("SLOT_BYTES "), lhstar::SLOT_BYTES);
-    assert_eq!(number("ROUTE_MOST "), lhstar::ROUTE_MOST);
+    assert_eq!(number_in_c("LHSTAR_NO_BUCKET"), lhstar::NO_BUCKET as usize);
+    assert_eq!(number_in_c("LHSTAR_ANSWER_BYTES"), lhstar::ANSWER_BYTES);
+    assert_eq!(number_in_c("LHSTAR_PAYLOAD_BYTES"), lhstar::PAYLOAD_BYTES);
+    assert_eq!(number_in_c("LHSTAR_CLIENT_BYTES"), lhstar::CLIENT_BYTES);
+    assert_eq!(number_in_c("LHSTAR_HEADER_BYTES"), lhstar::HEADER_BYTES);
+    assert_eq!(number_in_c("LHSTAR_HEAD_BYTES"), lhstar::HEAD_BYTES);
+    assert_eq!(number_in_c("LHSTAR_SLOT_BYTES"), lhstar::SLOT_BYTES);
+    assert_eq!(number_in_c("LHSTAR_ROUTE_MOST"), lhstar::ROUTE_MOST);
 }
 
 #[test]

@@ -13,8 +13,8 @@
 //!   before each batch, outside of the timed part.
 //! - split: a whole round of splits, from state (i, 0) to (i + 1, 0) where the
 //!   file has all its buckets; restored likewise.
-//! - check, scan: calls on the whole file; the scan has a right image and finds
-//!   one key in eight.
+//! - check, scan, scan old: calls on the whole file. A scan finds one key in
+//!   eight; it has a right image, the old one the image (0, 0).
 
 use std::hint::black_box;
 use std::time::{Duration, Instant};
@@ -151,12 +151,20 @@ fn check(side: &Side, buffers: &mut Buffers, setting: &Setting) -> usize {
     setting.calls_on_whole
 }
 
-fn scan(side: &Side, buffers: &mut Buffers, setting: &Setting) -> usize {
-    let Buffers { file, table, visits, matches, .. } = buffers;
+fn scan_by(side: &Side, buffers: &mut Buffers, setting: &Setting, table: [u8; 8]) -> usize {
+    let Buffers { file, visits, matches, .. } = buffers;
     for _ in 0..setting.calls_on_whole {
-        assert_eq!((side.scan)(file, table, 0, 3, visits, matches).reply, 0);
+        assert_eq!((side.scan)(file, &table, 0, 3, visits, matches).reply, 0);
     }
     setting.calls_on_whole
+}
+
+fn scan(side: &Side, buffers: &mut Buffers, setting: &Setting) -> usize {
+    scan_by(side, buffers, setting, buffers.table)
+}
+
+fn scan_old(side: &Side, buffers: &mut Buffers, setting: &Setting) -> usize {
+    scan_by(side, buffers, setting, *b"LC\0\0\0\0\0\0")
 }
 
 /// Takes the near caches away from whatever was used before.
@@ -213,6 +221,7 @@ fn bench(setting: &Setting, long: &mut [u8]) {
         ("split", split),
         ("check", check),
         ("scan", scan),
+        ("scan old", scan_old),
     ];
     for &(name, work) in works {
         print_line(setting, name, measure(setting, &starts, &mut buffers, long, work));

@@ -100,7 +100,7 @@ pub fn damage(call: &mut Call, lent: &mut Lent, match_count: usize, random: &mut
         Aim::HeaderByte => damage_header(lent, random),
         Aim::OddFigures => write_odd_figures(lent, random),
         Aim::FileLength => damage_file_length(lent, random),
-        Aim::Bucket => damage_bucket(call, lent, random),
+        Aim::Bucket => damage_buckets(call, lent, random),
         Aim::PastRegion => damage_past_region(call, lent, random),
         Aim::Lists => damage_lists(lent, match_count, random),
         Aim::BucketNumber => damage_bucket_number(call, lent, random),
@@ -331,6 +331,16 @@ fn first_bucket(client: u64, key: u64, table: &mut [u8]) -> Option<u32> {
     let record = record_of(client, table)?;
     let (level, pointer) = (u32::from(record[2]), number_at(record, 4) as u32);
     (level <= 12).then(|| State { level, pointer }.address(key))
+}
+
+/// One bucket; for a scan sometimes several, since it names the first.
+fn damage_buckets(call: &Call, lent: &mut Lent, random: &mut Random) -> usize {
+    if matches!(call, Call::Scan { .. }) && random.chance(1, 3) {
+        for _ in 0..1 + random.below(4) {
+            damage_bucket(call, lent, random);
+        }
+    }
+    damage_bucket(call, lent, random)
 }
 
 fn damage_bucket(call: &Call, lent: &mut Lent, random: &mut Random) -> usize {

@@ -194,12 +194,13 @@ fn random_file(shape: &Shape, state: State, random: &mut Random) -> Vec<u8> {
     file
 }
 
-/// How the keys of a bucket differ: in any bits, or in a few bits only.
+/// How the keys of a bucket differ: in any bits, in a few bits only, or alike in lift and ride.
 #[derive(Clone, Copy)]
 enum KeyStyle {
     Any,
     Next,
     FromBit(u32),
+    Alike,
 }
 
 impl KeyStyle {
@@ -208,6 +209,7 @@ impl KeyStyle {
             0 => KeyStyle::Next,
             1 => KeyStyle::FromBit(32),
             2 => KeyStyle::FromBit(16 + random.below(43) as u32),
+            3 => KeyStyle::Alike,
             _ => KeyStyle::Any,
         }
     }
@@ -218,6 +220,7 @@ impl KeyStyle {
             KeyStyle::Any => new_key(random) >> level << level,
             KeyStyle::Next => (earlier as u64) << level,
             KeyStyle::FromBit(bit) => (earlier as u64) << bit.max(level),
+            KeyStyle::Alike => (earlier as u64) << level | (earlier as u64) << level << 32,
         }
     }
 }
