@@ -101,9 +101,9 @@ enum lhstar_reply {
 
 /*
  * No call takes more bytes of stack, its arguments and its return address included. Measured by
- * tests/stack.c: create 64, join 16, insert 928, search 912, forwards 16, split 864, check 864,
- * view 784, parent 16; and scan 42064, which is still over it. The binding of memset by a dynamic
- * linker, once in a program, is not counted.
+ * tests/stack.c: create 64, join 16, insert 960, search 944, forwards 16, split 880, scan 15520,
+ * check 896, view 800, parent 16. The binding of memset by a dynamic linker, once in a program, is
+ * not counted.
  */
 #define LHSTAR_STACK_BYTES 16384
 

@@ -31,7 +31,10 @@ pub struct ScanAnswer {
 
 // How many buckets' matches are noted when they are counted; those of the buckets past them are found again when they
 // are written.
-const NOTES: usize = 256;
+const NOTES: usize = 1792;
+
+// As many for a file of few buckets, since they are cleared sooner.
+const FEW_NOTES: usize = 64;
 
 // Whether every bucket is sound, the lowest that is not, and how many keys match if all are.
 struct Tally {
@@ -301,6 +304,10 @@ fn collect_noting(
         ≡ collected (now (file .entry)) lift (visitsOf (now (file .entry)) image) (now (visits .entry))
         (now (matches .entry)) ⌝ }
 {
+    if address::buckets(FIRST_BUCKETS, header.state) as usize <= FEW_NOTES {
+        let mut few = [0u64; FEW_NOTES];
+        return collect(file, header, image, lift, &mut few, visits, matches);
+    }
     let mut notes = [0u64; NOTES];
     collect(file, header, image, lift, &mut notes, visits, matches)
 }
