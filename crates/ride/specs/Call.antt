@@ -50,8 +50,7 @@ searched file table client key =
       answer = 0;
       block = block 0 way 0 (rideAt region (slotOf region key) .payload);
       table = after;
-      file =
-          file;
+      file = file;
     })
     (record { answer = 1; block = block 1 way 0 noPayload; table = after; file = file })
 
@@ -77,8 +76,7 @@ placed file table client key payload =
       answer = 0;
       block = block 0 way (overfull file key) noPayload;
       table = after;
-      file = inserted file key
-          payload;
+      file = inserted file key payload;
     }))
 
 pub insert : List ℕ → List ℕ → ℕ → ℕ → List ℕ → List ℕ → Outcome

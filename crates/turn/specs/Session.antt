@@ -53,8 +53,7 @@ ran file table (Scan client lift) =
     record {
       file = file;
       table = table;
-      line = scanLine (done .answer) (take (done .visits) (done .visitList))
-          (done .matches);
+      line = scanLine (done .answer) (take (done .visits) (done .visitList)) (done .matches);
     }
 ran file table Unknown = record { file = file; table = table; line = unknownLine }
 

@@ -321,8 +321,7 @@ module _ (N : ℕ) (positive : 0 < N) (file : Image) (formed : Formed N file)
             record {
               believed = λ b. absurd (omega arith);
               under = λ b. high;
-              above = λ b. omega
-                  (arith, span-suc N k);
+              above = λ b. omega (arith, span-suc N k);
             },
             high,
           )

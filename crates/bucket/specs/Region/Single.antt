@@ -69,8 +69,7 @@ latest : (region : List ℕ) (mark k : ℕ) → Latest region mark k (latestOf r
 latest region mark zero =
     record {
       within = omega (arith, latest-none region mark);
-      alike = λ m e. absurd
-          (omega (arith, latest-none region mark));
+      alike = λ m e. absurd (omega (arith, latest-none region mark));
       past = λ i low high e. omega arith;
     }
 latest region mark (suc k) = go (latest region mark k)
@@ -160,8 +159,7 @@ sought-done region key count next so none =
     record {
       within = so .within;
       none = λ z i high e. so .past i (omega arith) high e;
-      here = λ some. absurd
-          (some none);
+      here = λ some. absurd (some none);
     }
 
 -- so it stands among the first slots, or it is fresh

@@ -332,8 +332,7 @@ step m bytes sound (Insert client key payload answer) typed = insert-ways (m .fi
     (record {
       small = typed .0;
       long = eqb-true _ 14 (and-right (eqb (length answer) 24) _ (w .fit));
-      bytes =
-          typed .1;
+      bytes = typed .1;
     }) free room)
 step m bytes sound (Search client key answer) typed = as-it-was (m .file) bytes sound _ (λ ride. ⊥)
     (search-ways (m .file) (m .table) client key answer (λ o. o .file ≡ m .file) (λ o r. r .file-left) (λ w there. refl)

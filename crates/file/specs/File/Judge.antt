@@ -289,8 +289,7 @@ known file header e h =
             record {
               some = omega arith;
               few = omega arith;
-              low = omega
-                  (arith, ap (λ (x : Image). x .level) state, seen .low);
+              low = omega (arith, ap (λ (x : Image). x .level) state, seen .low);
             };
         near = omega
             (arith, ap (λ (x : Image). x .pointer) state, seen .few, seen .figured .few-buckets, buckets-of file);

@@ -95,8 +95,7 @@ module _ (file : List ℕ) (header : Header) (seen : Known file header) where
         record {
           some = omega arith;
           few = omega arith;
-          low = omega
-              (arith, level-high firstBuckets (header .state) a, seen .room .levels .low);
+          low = omega (arith, level-high firstBuckets (header .state) a, seen .room .levels .low);
         }
 
     pub known-judged : {region : List ℕ} → region ≡ regionOf file a → {sound : Bool}

@@ -278,8 +278,7 @@ module _ (file : List ℕ) where
             answer = 0;
             old = splitting (stateOf file);
             new = newborn firstBuckets (stateOf file);
-            file = divided
-                file;
+            file = divided file;
           })))) .answer
           ≡ reply (refuse 5 (not header) ∷ refuse 10 whole ∷ refuse 7 (not old) ∷ refuse 7 (not new) ∷ []) 0
       go false whole old new = sym (reply-here 5 true _ 0 refl)
@@ -301,8 +300,7 @@ module _ (file : List ℕ) where
         answer = 0;
         old = splitting (stateOf file);
         new = newborn firstBuckets (stateOf file);
-        file = divided
-            file;
+        file = divided file;
       }))
       → P (split file)
   split-ways P refused done = header (headerSound file) refl

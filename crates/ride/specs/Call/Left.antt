@@ -108,8 +108,7 @@ module _ (file table : List ℕ) (client key : ℕ) where
       (record {
         answer = 1;
         block = block 1 (wayOf file (imageOf table client) key) 0 noPayload;
-        table =
-            adjustedTable file table client key;
+        table = adjustedTable file table client key;
         file = file;
       }))
       → P (searched file table client key)
@@ -124,16 +123,14 @@ module _ (file table : List ℕ) (client key : ℕ) where
       (record {
         answer = 8;
         block = block 8 (wayOf file (imageOf table client) key) 0 noPayload;
-        table =
-            adjustedTable file table client key;
+        table = adjustedTable file table client key;
         file = file;
       }))
       → (held file key ≡ false → full file key ≡ true
       → P (record {
         answer = 9;
         block = block 9 (wayOf file (imageOf table client) key) 0 noPayload;
-        table =
-            adjustedTable file table client key;
+        table = adjustedTable file table client key;
         file = file;
       }))
       → (held file key ≡ false → full file key ≡ false → P (record {
@@ -164,8 +161,7 @@ pub search-ways : (file table : List ℕ) (client key : ℕ) (answer : List ℕ)
     → P (record {
       answer = 1;
       block = block 1 (wayOf file (imageOf table client) key) 0 noPayload;
-      table = adjustedTable
-          file table client key;
+      table = adjustedTable file table client key;
       file = file;
     }))
     → P (search file table client key answer)
@@ -181,8 +177,7 @@ pub insert-ways : (file table : List ℕ) (client key : ℕ) (payload answer : L
     → P (record {
       answer = 8;
       block = block 8 (wayOf file (imageOf table client) key) 0 noPayload;
-      table = adjustedTable
-          file table client key;
+      table = adjustedTable file table client key;
       file = file;
     }))
     → (Through (eqb (length answer) 24 && eqb (length payload) 14) file table client key → held file key ≡ false
@@ -190,8 +185,7 @@ pub insert-ways : (file table : List ℕ) (client key : ℕ) (payload answer : L
     → P (record {
       answer = 9;
       block = block 9 (wayOf file (imageOf table client) key) 0 noPayload;
-      table = adjustedTable
-          file table client key;
+      table = adjustedTable file table client key;
       file = file;
     }))
     → (Through (eqb (length answer) 24 && eqb (length payload) 14) file table client key → held file key ≡ false

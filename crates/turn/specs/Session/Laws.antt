@@ -103,8 +103,7 @@ module _ (file table : List ℕ) (client lift : ℕ) {answer bucket visits match
       (record {
         file = file;
         table = table;
-        line = scanLine (o .answer) (take (o .visits) (o .visitList))
-            (o .matches);
+        line = scanLine (o .answer) (take (o .visits) (o .visitList)) (o .matches);
       }) file table at entry exit next)
       is
       (record {
