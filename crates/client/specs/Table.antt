@@ -4,7 +4,6 @@ pub mod Caller
 pub mod Keeping
 pub mod Laws
 pub mod Start
-pub mod Refusals
 use Prim.Native.Nat.{ℕ, _*_, _/_, _%_, _+_}
 use mathlib.Core.Bool.{Bool, cond, not, _&&_}
 use mathlib.Core.List.{List, [], _∷_, _++_}

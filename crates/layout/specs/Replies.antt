@@ -1,4 +1,5 @@
 -- The numbered replies: each is given exactly under its condition, and the first match wins.
+pub mod Passing
 use Prim.Native.Nat.{ℕ}
 use mathlib.Core.Path.{_≡_, refl, ap}
 use mathlib.Core.Bool.{Bool, true, false, cond}

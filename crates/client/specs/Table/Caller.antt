@@ -14,7 +14,7 @@ use Rattle.address.specs.Rules.Hash.{span-is, span-mono}
 use Rattle.layout.specs.Replies.{Numbers, reply, reply-none, reply-is, reply-append, numbers-append}
 use Rattle.client.specs.Table.{imageOf, recordSound, tableRefusals, callerRefusals}
 use Rattle.client.specs.Table.Laws.{table-numbers, table-numbered, table-fits, record-image}
-use Rattle.client.specs.Table.Refusals.{Passes, passes-append, passes-split, passes-on, passes-back, refused-on}
+use Rattle.layout.specs.Replies.Passing.{Passes, passes-append, passes-split, passes-on, passes-back, refused-on}
 
 -- what is known of a caller that is not refused
 pub record Calling (table : List ℕ) (client : ℕ) (image : Image) : Type 0 where

@@ -14,7 +14,7 @@ use Rattle.address.specs.Rules.{Formed, NotAhead, buckets}
 use Rattle.layout.specs.Replies.{Numbers, reply, reply-none, reply-is, reply-append, reply-else, numbers-append}
 use Rattle.client.specs.Table.{imageOf, recordSound, tableRefusals, callerRefusals}
 use Rattle.client.specs.Table.Caller.{Called, caller-numbers, caller-numbered, caller-passes, caller-passed}
-use Rattle.client.specs.Table.Refusals.{passes-append, passes-split, passes-on, passes-back, refused-on}
+use Rattle.layout.specs.Replies.Passing.{passes-append, passes-split, passes-on, passes-back, refused-on}
 use Rattle.file.specs.File.{bucketsOf, stateOf, headerSound, headerOf}
 use Rattle.file.specs.File.Judge.{Known, known, unknown, existing}
 use Rattle.file.specs.File.Region.{buckets-known}

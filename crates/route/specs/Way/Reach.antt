@@ -20,7 +20,7 @@ use Rattle.layout.specs.Replies.{Numbers, Refusal, refuse, reply, reply-none, r
 use Rattle.layout.specs.Replies.{reply-else, numbers-append}
 use Rattle.bucket.specs.Region.{slotOf, every}
 use Rattle.client.specs.Table.{imageOf, withImage}
-use Rattle.client.specs.Table.Refusals.{passes-split, passes-on, passes-back, refused-on}
+use Rattle.layout.specs.Replies.Passing.{passes-split, passes-on, passes-back, refused-on}
 use Rattle.file.specs.File.{mostOf, stateOf, bucketsOf, regionOf, bucketSoundIn}
 use Rattle.file.specs.File.Judge.{Known, state-small, buckets-of}
 use Rattle.file.specs.declared.Header.{Header}
