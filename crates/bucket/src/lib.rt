@@ -246,7 +246,7 @@ pub fn place(region: &mut [u8], count: usize, key: u64, payload: &[u8]) -> usize
     let at = 8 + 24 * count;
     layout::put(region, at, b"LR");
     layout::put8(region, at + 2, key);
-    layout::put(region, at + 10, payload);
+    layout::copy14(region, at + 10, payload, 0);
     let held = count + 1;
     layout::put2(region, 4, held as u64);
     held

@@ -3,7 +3,7 @@ ghost use mathlib.Core.Path.{_≡_};
 ghost use Prim.Native.Nat.{ℕ, _+_, _*_, _≤_, _<_};
 ghost use lib.Dec.{eqb};
 ghost use lib.ListN.{length, replicate};
-ghost use Rattle.layout.specs.Bytes.{byteAt, leAt, leBytes, marked, allBelow, allZero, edit};
+ghost use Rattle.layout.specs.Bytes.{byteAt, leAt, leBytes, marked, allBelow, allZero, edit, part};
 
 // A byte as a wide number.
 pub fn wide(x: u8) -> u64
@@ -116,6 +116,17 @@ pub fn put8(bytes: &mut [u8], at: usize, x: u64)
         (x7 % 256) as u8,
     ];
     put(bytes, at, &source);
+}
+
+// Copies fourteen bytes of a list to a place of another.
+pub fn copy14(bytes: &mut [u8], at: usize, source: &[u8], from: usize)
+    requires { ⌜ (at + 14 ≤ length (now bytes)) × (from + 14 ≤ length (now source)) ⌝ }
+    ensures { λ _. ⌜ now (bytes .exit) ≡ edit at (part from 14 (now (source .entry))) (now (bytes .entry)) ⌝ }
+{
+    let first = read8(source, from);
+    let last = read8(source, from + 6);
+    put8(bytes, at, first);
+    put8(bytes, at + 6, last);
 }
 
 // Makes all bytes zero.

@@ -25,9 +25,7 @@ fn put_found(file: &[u8], header: Header, bucket: u32, place: usize, walk: Walk,
 {
     answer::put_block(answer, 0, walk, 0);
     let at = file::start(header.slots, bucket);
-    let from = at + (18 + 24 * place);
-    let to = from + 14;
-    layout::put(answer, 10, &file[from..to]);
+    layout::copy14(answer, 10, file, at + (18 + 24 * place));
 }
 
 // A search that reached the key's own bucket: the payload found, or none.

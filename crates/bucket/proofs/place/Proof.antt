@@ -23,11 +23,11 @@ add-put8 c = search needs
 put8-requires : tie.Need-put8-requires
 put8-requires c κs = search needs
 
-add-put : tie.Need-add-put
-add-put c = search needs
+add-copy14 : tie.Need-add-copy14
+add-copy14 c = search needs
 
-put-requires-2 : tie.Need-put-requires-2
-put-requires-2 c κs = search needs
+copy14-requires : tie.Need-copy14-requires
+copy14-requires c κs = search needs
 
 add-held : tie.Need-add-held
 add-held c = search needs
@@ -51,8 +51,8 @@ place-spec =
     put-requires
     add-put8
     put8-requires
-    add-put
-    put-requires-2
+    add-copy14
+    copy14-requires
     add-held
     put2-requires
     same-length

@@ -1,19 +1,21 @@
 -- The judging functions by what their calls and tests told: each group follows its function in the source, with a law
 -- for each turn of its loop and each way out.
 use Prim.Native.Nat.{ℕ, _+_, _*_, _-_, _≤_, _<_}
-use mathlib.Core.Path.{_≡_, refl, sym, ap, subst, _∙_}
+use mathlib.Core.Path.{_≡_, refl, sym, ap, ap₂, subst, _∙_}
 use mathlib.Core.Bool.{Bool, true, false, cond, not, _&&_, false≢true}
 use mathlib.Core.List.{List}
 use native.Mathlib.Omega.{arith}
 use borrow.Author.Tests.{eq-eqb, ne-eqb, not-true, not-false}
 use lib.Dec.{eqb}
 use lib.ListN.{length, getD, set, take, drop, replicate, length-replicate}
+use lib.Seq.{take-length}
 use mir.Facts.{fits-8-64}
 use mir.Syntax.{w8, w64}
 use mir.Val.{Fits}
 use Rattle.address.specs.Limits.{mostSlots}
 use Rattle.address.specs.Rules.{keeps}
-use Rattle.layout.specs.Bytes.{leAt, leBytes, allBelow, allZero, firstFrom, edit}
+use Rattle.layout.specs.Bytes.{leAt, leBytes, allBelow, allZero, firstFrom, edit, part}
+use Rattle.layout.specs.Bytes.Edit.{part-front}
 use Rattle.layout.specs.Bytes.Tests.{first-here, first-later, first-none}
 use Rattle.bucket.specs.Region.{slotAt, slotMark, slotUsed, keyAt, ridesFrom, keysOf, distinct, headSound}
 use Rattle.bucket.specs.Region.{soundWith, slotOf, slotBytes}
@@ -199,12 +201,15 @@ module _ (S j : ℕ) (region : List ℕ) {head : Bool} (is : head ≡ headSound 
 
 pub ride-placed : (count key : ℕ) (payload region : List ℕ) → length payload ≡ 14 → slotAt count + 24 ≤ length region
     → {one two three exit : List ℕ} → one ≡ edit (slotAt count) slotMark region
-    → two ≡ edit (slotAt count + 2) (leBytes 8 key) one → three ≡ edit (slotAt count + 10) payload two
+    → two ≡ edit (slotAt count + 2) (leBytes 8 key) one → three ≡ edit (slotAt count + 10) (part 0 14 payload) two
     → exit ≡ edit 4 (leBytes 2 (count + 1)) three
     → exit ≡ edit 4 (leBytes 2 (count + 1))
     (edit (slotAt count) (slotBytes (record { key = key; payload = payload })) region)
 ride-placed count key payload region long fits e1 e2 e3 e4 =
     e4
     ∙ ap (edit 4 (leBytes 2 (count + 1)))
-    (e3 ∙ ap (edit (slotAt count + 10) payload) (e2 ∙ ap (edit (slotAt count + 2) (leBytes 8 key)) e1)
+    (e3 ∙ ap₂ (edit (slotAt count + 10)) whole (e2 ∙ ap (edit (slotAt count + 2) (leBytes 8 key)) e1)
     ∙ put-slot (slotAt count) key payload region long fits)
+  where
+    whole : part 0 14 payload ≡ payload
+    whole = ap (λ (n : ℕ). part 0 n payload) (sym long) ∙ part-front (length payload) payload ∙ take-length payload

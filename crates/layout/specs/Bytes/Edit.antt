@@ -292,3 +292,77 @@ front-written ys xs = ap (take (length ys)) (edit-is 0 ys xs) ∙ take-append-se
 pub rest-left : (ys xs : List ℕ) → drop (length ys) (edit 0 ys xs) ≡ drop (length ys) xs
 rest-left ys xs = ap (drop (length ys)) (edit-is 0 ys xs) ∙ drop-append-seam ys (drop (0 + length ys) xs)
     ∙ ap (λ (n : ℕ). drop n xs) (zero-add (length ys))
+
+-- two parts of one list side by side, of which the second begins inside the first, are one part written
+module _ (at from n m a : ℕ) (source bytes : List ℕ) (low : a ≤ n) (high : n ≤ a + m)
+    (fits : from + (a + m) ≤ length source) (room : at + (a + m) ≤ length bytes) where
+  first-long : length (part from n source) ≡ n
+  first-long = length-part from n source (omega arith)
+
+  second-long : length (part (from + a) m source) ≡ m
+  second-long = length-part (from + a) m source (omega arith)
+
+  whole-long : length (part from (a + m) source) ≡ a + m
+  whole-long = length-part from (a + m) source fits
+
+  first-fits : at + length (part from n source) ≤ length bytes
+  first-fits = omega (arith, first-long)
+
+  whole-fits : at + length (part from (a + m) source) ≤ length bytes
+  whole-fits = omega (arith, whole-long)
+
+  first-kept : length (edit at (part from n source) bytes) ≡ length bytes
+  first-kept = length-edit at (part from n source) bytes first-fits
+
+  second-fits : at + a + length (part (from + a) m source) ≤ length (edit at (part from n source) bytes)
+  second-fits = omega (arith, second-long, first-kept)
+
+  pub edit-overlap : edit (at + a) (part (from + a) m source) (edit at (part from n source) bytes)
+      ≡ edit at (part from (a + m) source) bytes
+  edit-overlap = same-bytes _ _
+      (length-edit (at + a) (part (from + a) m source) (edit at (part from n source) bytes) second-fits ∙ first-kept
+      ∙ sym (length-edit at (part from (a + m) source) bytes whole-fits)) (λ k h. each k)
+    where
+      one : List ℕ
+      one = edit at (part from n source) bytes
+
+      -- byte i of the whole part, at its place
+      whole : (k i : ℕ) → k ≡ at + i → i < a + m → getD (edit at (part from (a + m) source) bytes) k 0
+          ≡ getD source (from + i) 0
+      whole k i e h = ap (λ (j : ℕ). getD (edit at (part from (a + m) source) bytes) j 0) e
+          ∙ edit-in at (part from (a + m) source) bytes whole-fits i (omega (arith, whole-long))
+          ∙ part-at from (a + m) source i h
+
+      first : (k i : ℕ) → k ≡ at + i → i < a → getD (edit (at + a) (part (from + a) m source) one) k 0
+          ≡ getD source (from + i) 0
+      first k i e h = edit-before (at + a) (part (from + a) m source) one second-fits k (omega arith)
+          ∙ ap (λ (j : ℕ). getD one j 0) e
+          ∙ edit-in at (part from n source) bytes first-fits i (omega (arith, first-long))
+          ∙ part-at from n source i (omega arith)
+
+      second : (k i : ℕ) → k ≡ at + a + i → i < m → getD (edit (at + a) (part (from + a) m source) one) k 0
+          ≡ getD source (from + a + i) 0
+      second k i e h = ap (λ (j : ℕ). getD (edit (at + a) (part (from + a) m source) one) j 0) e
+          ∙ edit-in (at + a) (part (from + a) m source) one second-fits i (omega (arith, second-long))
+          ∙ part-at (from + a) m source i h
+
+      shift : (i : ℕ) → getD source (from + a + i) 0 ≡ getD source (from + (a + i)) 0
+      shift i = ap (λ (j : ℕ). getD source j 0) same
+        where
+          same : from + a + i ≡ from + (a + i)
+          same = omega arith
+
+      each : (k : ℕ) → getD (edit (at + a) (part (from + a) m source) one) k 0
+          ≡ getD (edit at (part from (a + m) source) bytes) k 0
+      each k = by-cases (decLt k at)
+          (λ l. edit-before (at + a) (part (from + a) m source) one second-fits k (omega arith)
+          ∙ edit-before at (part from n source) bytes first-fits k l
+          ∙ sym (edit-before at (part from (a + m) source) bytes whole-fits k l))
+          (λ l. by-cases (decLt k (at + a))
+          (λ r. first k (k - at) (omega arith) (omega arith) ∙ sym (whole k (k - at) (omega arith) (omega arith)))
+          (λ r. by-cases (decLt k (at + (a + m)))
+          (λ s. second k (k - (at + a)) (omega arith) (omega arith) ∙ shift (k - (at + a))
+          ∙ sym (whole k (a + (k - (at + a))) (omega arith) (omega arith)))
+          (λ s. edit-after (at + a) (part (from + a) m source) one second-fits k (omega (arith, second-long))
+          ∙ edit-after at (part from n source) bytes first-fits k (omega (arith, first-long))
+          ∙ sym (edit-after at (part from (a + m) source) bytes whole-fits k (omega (arith, whole-long))))))

@@ -16,7 +16,7 @@ use lib.Dec.{eqb}
 use lib.ListN.{length, getD, drop}
 use lib.Seq.{drop-cons, getD-drop, getD-append-add}
 use Rattle.layout.specs.Bytes.{Bytes, leAt, leBytes, marked, allBelow, edit, part}
-use Rattle.layout.specs.Bytes.Edit.{part-at}
+use Rattle.layout.specs.Bytes.Edit.{part-at, edit-overlap}
 
 pub length-leBytes : (n x : ℕ) → length (leBytes n x) ≡ n
 unfolding leBytes
@@ -196,3 +196,17 @@ words-more xs k seen word so e =
   where
     place : 8 * k + 8 ≡ 8 * (k + 1)
     place = omega arith
+
+-- fourteen bytes are copied as two numbers of eight that overlap
+pub fourteen-copied : (at from : ℕ) (bytes source : List ℕ) → ((k : ℕ) → Fits w8 (getD source k 0))
+    → from + 14 ≤ length source → at + 14 ≤ length bytes
+    → {x y : ℕ} → x ≡ leAt 8 source from → y ≡ leAt 8 source (from + 6)
+    → {one exit : List ℕ} → one ≡ edit at (leBytes 8 x) bytes → exit ≡ edit (at + 6) (leBytes 8 y) one
+    → exit ≡ edit at (part from 14 source) bytes
+fourteen-copied at from bytes source known fits room ex ey e1 e2 =
+    e2
+    ∙ ap₂ (λ (l r : List ℕ). edit (at + 6) l r)
+    (ap (leBytes 8) ey ∙ le-again 8 source (from + 6) (λ k. known k .fits) (omega arith))
+    (e1 ∙ ap (λ (l : List ℕ). edit at l bytes)
+    (ap (leBytes 8) ex ∙ le-again 8 source from (λ k. known k .fits) (omega arith)))
+    ∙ edit-overlap at from 8 8 6 source bytes (omega arith) (omega arith) fits room

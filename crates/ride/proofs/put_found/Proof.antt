@@ -10,29 +10,17 @@ put-block-requires c κs = search needs
 start-requires : tie.Need-start-requires
 start-requires c κs = search needs
 
-mul-from : tie.Need-mul-from
-mul-from c = search needs
+mul-copy14 : tie.Need-mul-copy14
+mul-copy14 c = search needs
 
-add-from : tie.Need-add-from
-add-from c = search needs
+add-copy14 : tie.Need-add-copy14
+add-copy14 c = search needs
 
-add-from-2 : tie.Need-add-from-2
-add-from-2 c = search needs
+add-copy14-2 : tie.Need-add-copy14-2
+add-copy14-2 c = search needs
 
-add-to : tie.Need-add-to
-add-to c = search needs
-
-sub-put : tie.Need-sub-put
-sub-put c = search needs
-
-part-put-start : tie.Need-part-put-start
-part-put-start c = search needs
-
-part-put-end : tie.Need-part-put-end
-part-put-end c = search payload-within
-
-put-requires : tie.Need-put-requires
-put-requires c κs = search needs
+copy14-requires : tie.Need-copy14-requires
+copy14-requires c κs = (search needs, search payload-within)
 
 same-length : tie.Need-same-length
 same-length c = search needs
@@ -46,13 +34,9 @@ put-found-spec =
     (tie.spec
     put-block-requires
     start-requires
-    mul-from
-    add-from
-    add-from-2
-    add-to
-    sub-put
-    part-put-start
-    part-put-end
-    put-requires
+    mul-copy14
+    add-copy14
+    add-copy14-2
+    copy14-requires
     same-length
     returns)

@@ -1,16 +1,15 @@
 -- At the key's own bucket: the payload in its slot, and the table with the image after the call.
-use Prim.Native.Nat.{ℕ, _+_, _*_, _-_, _≤_, _<_}
+use Prim.Native.Nat.{ℕ, _+_, _*_, _≤_, _<_}
 use mathlib.Core.Path.{_≡_, sym, ap, _∙_}
 use mathlib.Core.Bool.{true}
 use mathlib.Core.List.{List}
 use native.Mathlib.Omega.{arith}
 use borrow.Author.Tests.{ltb-true}
 use lib.Dec.{ltb}
-use lib.ListN.{length, take, drop, length-drop}
-use lib.Seq.{length-take-le}
+use lib.ListN.{length}
 use Rattle.address.specs.declared.Image.{Image}
 use Rattle.layout.specs.Bytes.{edit, part}
-use Rattle.layout.specs.Bytes.Edit.{part-is, part-part}
+use Rattle.layout.specs.Bytes.Edit.{length-part, part-part}
 use Rattle.bucket.specs.Region.{slotAt, countOf, rideAt}
 use Rattle.bucket.specs.Region.Judge.{ride-payload}
 use Rattle.file.specs.File.{mostOf, slotsOf, bucketsOf, startOf, regionOf}
@@ -42,19 +41,8 @@ module _ {file : List ℕ} {header : Header} (seen : Known file header) {a at k 
   pub payload-within : at + (18 + 24 * k) + 14 ≤ length file
   payload-within = omega (arith, region-fits file (seen .ranges) a exists, here)
 
-  wide : at + (18 + 24 * k) + 14 - (at + (18 + 24 * k)) ≡ 14
-  wide = omega arith
-
-  payload-long : length (take (at + (18 + 24 * k) + 14 - (at + (18 + 24 * k))) (drop (at + (18 + 24 * k)) file))
-      ≡ 14
-  payload-long = ap (λ (n : ℕ). length (take n (drop (at + (18 + 24 * k)) file))) wide
-      ∙ length-take-le 14 (drop (at + (18 + 24 * k)) file)
-      (omega (arith, length-drop (at + (18 + 24 * k)) file, payload-within))
-
-  payload-cut : take (at + (18 + 24 * k) + 14 - (at + (18 + 24 * k))) (drop (at + (18 + 24 * k)) file)
-      ≡ rideAt (regionOf file a) k .payload
-  payload-cut = ap (λ (n : ℕ). take n (drop (at + (18 + 24 * k)) file)) wide
-      ∙ sym (part-is (at + (18 + 24 * k)) 14 file) ∙ ap (λ (p : ℕ). part p 14 file) place
+  payload-cut : part (at + (18 + 24 * k)) 14 file ≡ rideAt (regionOf file a) k .payload
+  payload-cut = ap (λ (p : ℕ). part p 14 file) place
       ∙ sym (ride-payload (regionOf file a) k ∙ ap (part (slotAt k + 10) 14) (region-is file a)
       ∙ part-part (startOf (slotsOf file) a) (slotAt (slotsOf file)) (slotAt k + 10) 14 file (omega arith)
       (region-fits file (seen .ranges) a exists))
@@ -64,7 +52,8 @@ module _ {file : List ℕ} {header : Header} (seen : Known file header) {a at k 
 
   -- so the block with it is written as a block without one, and the payload over that
   pub found-written : (walk : Walk) {one two : List ℕ} → one ≡ block 0 (noted walk) 0 noPayload
-      → two ≡ edit 10 (take (at + (18 + 24 * k) + 14 - (at + (18 + 24 * k))) (drop (at + (18 + 24 * k)) file)) one
+      → two ≡ edit 10 (part (at + (18 + 24 * k)) 14 file) one
       → two ≡ block 0 (noted walk) 0 (rideAt (regionOf file a) k .payload)
-  found-written walk e1 e2 = e2 ∙ ap (edit 10 _) e1 ∙ block-payload 0 0 (noted walk) _ payload-long
+  found-written walk e1 e2 = e2 ∙ ap (edit 10 _) e1
+      ∙ block-payload 0 0 (noted walk) _ (length-part (at + (18 + 24 * k)) 14 file payload-within)
       ∙ ap (block 0 (noted walk) 0) payload-cut
