@@ -7,7 +7,7 @@ ghost use Prim.Native.Nat.{_+_, _≤_, _<_};
 ghost use lib.ListN.{length};
 ghost use Rattle.address.specs.Limits.{mostBuckets, mostSlots};
 ghost use Rattle.layout.specs.Bytes.{allZero};
-ghost use Rattle.bucket.specs.Region.{Ride, slotAt, countOf, keyAt, slotOf};
+ghost use Rattle.bucket.specs.Region.{slotAt, countOf, keyAt, slotOf};
 ghost use Rattle.file.specs.File.Judge.{Known, FiguresOf};
 ghost use Rattle.file.specs.File.{fileLength, figuresFit, stateFits, fixedBytes, rangesFit, noHeader, headerOf};
 ghost use Rattle.file.specs.File.{mostOf, bucketsOf, startOf, regionOf, bucketSoundIn, withRide};
@@ -154,15 +154,18 @@ pub fn region_zero(file: &[u8], header: Header, number: u32) -> bool
     layout::is_zero(region(file, header, number))
 }
 
-// Judges a bucket of a file, and finds a key in it.
+// Judges a bucket of a file, and finds a key in it. It cuts the region out itself: a part that is handed back goes
+// through memory.
 pub fn judge_bucket(file: &[u8], header: Header, bucket: u32, key: u64) -> Judged
     requires { ⌜ Known (now file) header × (bucket < bucketsOf (now file)) ⌝ }
     ensures { λ r. ⌜ (r .sound ≡ bucketSoundIn (now (file .entry)) bucket)
         × (r .sound ≡ true → r .place ≡ slotOf (regionOf (now (file .entry)) bucket) key) ⌝ }
 {
+    let at = start(header.slots, bucket);
+    let end = at + (8 + 24 * header.slots as usize);
     let level = address::level_of(address::FIRST_BUCKETS, header.state, bucket);
     bucket::judge(
-        region(file, header, bucket),
+        &file[at..end],
         header.slots,
         address::FIRST_BUCKETS,
         bucket,

@@ -19,7 +19,7 @@ use Rattle.layout.specs.Bytes.Tests.{all-of, all-fails, first-here, first-later
 use Rattle.layout.specs.Bytes.Edit.{part-is, length-part}
 use Rattle.layout.specs.Bytes.Numbers.{le-part}
 use Rattle.layout.specs.Replies.{refuse, reply, reply-none, reply-here, reply-past}
-use Rattle.bucket.specs.Region.{slotAt, countOf, soundWith}
+use Rattle.bucket.specs.Region.{slotAt, countOf, soundWith, slotOf}
 use Rattle.bucket.specs.Region.Sound.{bucket-judged, bucket-few}
 use Rattle.file.specs.declared.Header.{Header}
 use Rattle.file.specs.File.{mostOf, slotsOf, stateOf, startOf, fileLength, bucketsOf, regionOf, headerSound}
@@ -109,6 +109,19 @@ module _ (file : List ℕ) (header : Header) (seen : Known file header) where
         ∙ sym
         (bucket-judged firstBuckets (omega arith) (stateOf file) (seen .ranges .formed) (slotsOf file) a exists
         (regionOf file a))
+
+  -- and of the part that is cut out
+  module _ (a at : ℕ) (ea : at ≡ startOf (header .slots) a) where
+    pub cut-judged : {l : ℕ} → a < bucketsOf file → l ≡ level firstBuckets (header .state) a → {sound : Bool}
+        → sound ≡ soundWith (header .slots) l (keeps firstBuckets a l)
+        (take (at + (8 + 24 * header .slots) - at) (drop at file))
+        → sound ≡ bucketSoundIn file a
+    cut-judged {l} exists el es = known-judged a l exists el (known-cut a at ea) es
+
+    pub cut-place : {place : ℕ} (key : ℕ)
+        → place ≡ slotOf (take (at + (8 + 24 * header .slots) - at) (drop at file)) key
+        → place ≡ slotOf (regionOf file a) key
+    cut-place key e = e ∙ ap (λ (bytes : List ℕ). slotOf bytes key) (known-cut a at ea)
 
 -- a region by its cases
 pub region-bucket : (file : List ℕ) (a : ℕ) → a < bucketsOf file → regionSound file a ≡ bucketSoundIn file a
