@@ -4,15 +4,8 @@ ghost use mathlib.Core.Path.{_≡_};
 ghost use Prim.Native.Nat.{_+_, _*_, _≤_, _<_};
 ghost use lib.ListN.{length};
 ghost use Rattle.layout.specs.Replies.{reply};
-ghost use Rattle.client.specs.Table.{Joined, imageOf, recordFormed, imageFormed, recordSound, tableRefusals};
+ghost use Rattle.client.specs.Table.{Joined, imageOf, recordFormed, imageFormed, tableRefusals, callerRefusals};
 ghost use Rattle.client.specs.Table.{withImage, join};
-ghost use Rattle.client.specs.Table.Caller.{Called};
-
-// A client's record, judged.
-pub struct Client {
-    pub sound: bool,
-    pub image: Image,
-}
 
 // The refusal of a table and a client's number: 2, 3, or 0 for none.
 pub fn table_refusal(table: &[u8], client: u64) -> u8
@@ -30,16 +23,16 @@ pub fn table_refusal(table: &[u8], client: u64) -> u8
     3
 }
 
-// Whether the fixed bytes of a client's record are right.
+// Whether the fixed bytes of a client's record are right: the mark, and bytes 3, 6 and 7 of its word.
 fn record_formed(table: &[u8], client: usize) -> bool
     requires { ⌜ 8 * client + 8 ≤ length (now table) ⌝ }
     ensures { λ r. ⌜ r ≡ recordFormed (now (table .entry)) client ⌝ }
 {
     let at = 8 * client;
+    let word = layout::read8(table, at);
     layout::has_mark(table, at, b"LC")
-        & (table[at + 3] == 0)
-        & (table[at + 6] == 0)
-        & (table[at + 7] == 0)
+        & (word / 16777216 % 256 == 0)
+        & (word / 281474976710656 == 0)
 }
 
 // Whether an image's level and pointer are in range.
@@ -52,55 +45,31 @@ fn image_formed(image: Image) -> bool
     image.pointer < address::span(address::FIRST_BUCKETS, image.level)
 }
 
-// A client's record, read and judged.
-fn client_of(table: &[u8], client: u64) -> Client
+// A client's image, as it stands in the record.
+pub fn image_of(table: &[u8], client: u64) -> Image
     requires { ⌜ 8 * client + 8 ≤ length (now table) ⌝ }
-    ensures { λ r. ⌜ (r .sound ≡ recordSound (now (table .entry)) client)
-        × (r .image ≡ imageOf (now (table .entry)) client) ⌝ }
+    ensures { λ r. ⌜ r ≡ imageOf (now (table .entry)) client ⌝ }
 {
-    let place = client as usize;
-    let at = 8 * place;
-    let image = Image {
+    let at = 8 * client as usize;
+    Image {
         level: layout::wide(table[at + 2]) as u32,
         pointer: layout::read2(table, at + 4) as u32,
-    };
-    Client {
-        sound: record_formed(table, place) & image_formed(image),
-        image,
     }
 }
 
-// A caller's refusal, or 0 and its image.
-pub struct Caller {
-    pub reply: u8,
-    pub image: Image,
-}
-
-// A caller that is refused.
-fn no_caller(reply: u8) -> Caller
-    ensures { λ r. ⌜ r .reply ≡ reply ⌝ }
-{
-    let image = Image {
-        level: 0,
-        pointer: 0,
-    };
-    Caller { reply, image }
-}
-
-// Judges table, number and record in the replies' order: 2, 3, 4, or 0.
-pub fn caller_of(table: &[u8], client: u64) -> Caller
-    ensures { λ r. ⌜ Called (now (table .entry)) client (r .reply) (r .image) ⌝ }
+// The refusal of a caller, by table, number and record: 2, 3, 4, or 0 for none.
+pub fn caller_refusal(table: &[u8], client: u64) -> u8
+    ensures { λ r. ⌜ r ≡ reply (callerRefusals (now (table .entry)) client) 0 ⌝ }
 {
     let reply = table_refusal(table, client);
     if reply != 0 {
-        return no_caller(reply);
+        return reply;
     }
-    let record = client_of(table, client);
-    if !record.sound {
-        return no_caller(4);
+    let sound = record_formed(table, client as usize) & image_formed(image_of(table, client));
+    if !sound {
+        return 4;
     }
-    let image = record.image;
-    Caller { reply: 0, image }
+    0
 }
 
 // Writes a client's image.

@@ -9,6 +9,7 @@ ghost use Rattle.address.specs.Limits.{mostBuckets, mostSlots};
 ghost use Rattle.layout.specs.Bytes.{allZero};
 ghost use Rattle.bucket.specs.Region.{slotAt, countOf, keyAt, slotOf};
 ghost use Rattle.file.specs.File.Judge.{Known, FiguresOf};
+ghost use Rattle.file.specs.File.Region.{Standing};
 ghost use Rattle.file.specs.File.{fileLength, figuresFit, stateFits, fixedBytes, rangesFit, noHeader, headerOf};
 ghost use Rattle.file.specs.File.{mostOf, bucketsOf, startOf, regionOf, bucketSoundIn, withRide};
 
@@ -67,16 +68,16 @@ fn state_fits(state: Image, most: u32) -> bool
     (state.pointer < span) & (buckets <= most)
 }
 
-// Whether the mark stands in a header, and the zeros.
+// Whether the mark stands in a header, and the zeros: the word from byte 8 on is that byte alone.
 fn fixed_bytes(file: &[u8]) -> bool
     requires { ⌜ 16 ≤ length (now file) ⌝ }
     ensures { λ r. ⌜ r ≡ fixedBytes (now (file .entry)) ⌝ }
 {
-    layout::has_mark(file, 0, b"LF") & layout::is_zero(&file[9..16])
+    layout::has_mark(file, 0, b"LF") & (layout::read8(file, 8) < 256)
 }
 
 // The figures of a header, as they stand there.
-fn figures(file: &[u8]) -> Header
+pub fn figures(file: &[u8]) -> Header
     requires { ⌜ 16 ≤ length (now file) ⌝ }
     ensures { λ r. ⌜ FiguresOf (now (file .entry)) r ⌝ }
 {
@@ -154,19 +155,18 @@ pub fn region_zero(file: &[u8], header: Header, number: u32) -> bool
     layout::is_zero(region(file, header, number))
 }
 
-// Judges a bucket of a file, and finds a key in it. It cuts the region out itself: a part that is handed back goes
-// through memory.
-pub fn judge_bucket(file: &[u8], header: Header, bucket: u32, key: u64) -> Judged
-    requires { ⌜ Known (now file) header × (bucket < bucketsOf (now file)) ⌝ }
+// Judges a bucket of a file, and finds a key in it. It takes numbers alone and cuts the region out itself: a struct, or a
+// part that is handed back, would go through memory.
+pub fn judge_bucket(file: &[u8], slots: u32, bucket: u32, level: u32, key: u64) -> Judged
+    requires { ⌜ Standing (now file) slots bucket level ⌝ }
     ensures { λ r. ⌜ (r .sound ≡ bucketSoundIn (now (file .entry)) bucket)
         × (r .sound ≡ true → r .place ≡ slotOf (regionOf (now (file .entry)) bucket) key) ⌝ }
 {
-    let at = start(header.slots, bucket);
-    let end = at + (8 + 24 * header.slots as usize);
-    let level = address::level_of(address::FIRST_BUCKETS, header.state, bucket);
+    let at = start(slots, bucket);
+    let end = at + (8 + 24 * slots as usize);
     bucket::judge(
         &file[at..end],
-        header.slots,
+        slots,
         address::FIRST_BUCKETS,
         bucket,
         level,
@@ -179,7 +179,8 @@ pub fn bucket_sound(file: &[u8], header: Header, bucket: u32) -> bool
     requires { ⌜ Known (now file) header × (bucket < bucketsOf (now file)) ⌝ }
     ensures { λ r. ⌜ r ≡ bucketSoundIn (now (file .entry)) bucket ⌝ }
 {
-    judge_bucket(file, header, bucket, 0).sound
+    let level = address::level_of(address::FIRST_BUCKETS, header.state, bucket);
+    judge_bucket(file, header.slots, bucket, level, 0).sound
 }
 
 // How many rides a sound bucket holds.

@@ -11,10 +11,11 @@ ghost use lib.Dec.{ltb};
 ghost use Rattle.bucket.specs.Region.{Ride, countOf, rideAt};
 ghost use Rattle.file.specs.File.{slotsOf, bucketsOf, regionOf, bucketSoundIn, withRide};
 ghost use Rattle.file.specs.File.Judge.{Known};
-ghost use Rattle.route.specs.Way.{noted};
+ghost use Rattle.layout.specs.Replies.{reply};
+ghost use Rattle.route.specs.Way.{early, noted};
 ghost use Rattle.route.specs.Way.Reach.{AtOwn};
 ghost use Rattle.answer.specs.Answer.{block, noPayload};
-ghost use Rattle.ride.specs.Call.{Outcome, searched, search, placed, insert};
+ghost use Rattle.ride.specs.Call.{Outcome, routed, searched, search, placed, insert};
 
 // Writes the block of a search that found its key, with the payload in the key's slot.
 fn put_found(file: &[u8], header: Header, bucket: u32, place: usize, walk: Walk, answer: &mut [u8])
@@ -58,6 +59,24 @@ fn finish_search(
     1
 }
 
+// A search that nothing refuses before its route: 7, or what it finds at the key's own bucket.
+fn walk_search(file: &[u8], table: &mut [u8], client: u64, key: u64, answer: &mut [u8]) -> u8
+    requires { ⌜ (length (now answer) ≡ 24) × (reply (early (now file) (now table) client) 0 ≡ 0) ⌝ }
+    ensures { λ r. ⌜
+        record { answer = r; block = now (answer .exit); table = now (table .exit); file = now (file .entry) }
+        ≡ routed true (now (file .entry)) (now (table .entry)) client key (now (answer .entry))
+        (searched (now (file .entry)) (now (table .entry)) client key) ⌝ }
+{
+    let opened = route::open(file, table, client);
+    let end = route::follow(file, table, client, opened, key);
+    let stopped = end.reply;
+    if stopped != 0 {
+        answer::put_block(answer, stopped, end.walk, 0);
+        return stopped;
+    }
+    finish_search(file, table, client, key, answer, opened, end)
+}
+
 // Searches a key through a client: 14, 2 to 6, 7, else 0 with its payload or 1.
 pub fn search(file: &[u8], table: &mut [u8], client: u64, key: u64, answer: &mut [u8]) -> u8
     ensures { λ r. ⌜
@@ -67,19 +86,12 @@ pub fn search(file: &[u8], table: &mut [u8], client: u64, key: u64, answer: &mut
     if answer.len() != 24 {
         return 14;
     }
-    let opened = route::open(file, table, client);
-    let refused = opened.reply;
+    let refused = route::refusal(file, table, client);
     if refused != 0 {
         answer::put_block(answer, refused, route::no_walk(), 0);
         return refused;
     }
-    let end = route::follow(file, table, client, opened, key);
-    let stopped = end.reply;
-    if stopped != 0 {
-        answer::put_block(answer, stopped, end.walk, 0);
-        return stopped;
-    }
-    finish_search(file, table, client, key, answer, opened, end)
+    walk_search(file, table, client, key, answer)
 }
 
 // The flag of an insert: 1 if more rides are held than the capacity.
@@ -150,6 +162,32 @@ fn finish_insert(
     0
 }
 
+// An insert that nothing refuses before its route: 7, or what it comes to at the key's own bucket.
+fn walk_insert(
+    file: &mut [u8],
+    table: &mut [u8],
+    client: u64,
+    key: u64,
+    payload: &[u8],
+    answer: &mut [u8],
+) -> u8
+    requires { ⌜ (length (now answer) ≡ 24) × (length (now payload) ≡ 14)
+        × (reply (early (now file) (now table) client) 0 ≡ 0) ⌝ }
+    ensures { λ r. ⌜
+        record { answer = r; block = now (answer .exit); table = now (table .exit); file = now (file .exit) }
+        ≡ routed true (now (file .entry)) (now (table .entry)) client key (now (answer .entry))
+        (placed (now (file .entry)) (now (table .entry)) client key (now (payload .entry))) ⌝ }
+{
+    let opened = route::open(file, table, client);
+    let end = route::follow(file, table, client, opened, key);
+    let stopped = end.reply;
+    if stopped != 0 {
+        answer::put_block(answer, stopped, end.walk, 0);
+        return stopped;
+    }
+    finish_insert(file, table, client, key, payload, answer, opened, end)
+}
+
 // Inserts a ride through a client: 14, 2 to 6, 7, 8, 9, else 0.
 pub fn insert(
     file: &mut [u8],
@@ -167,17 +205,10 @@ pub fn insert(
     if !fits {
         return 14;
     }
-    let opened = route::open(file, table, client);
-    let refused = opened.reply;
+    let refused = route::refusal(file, table, client);
     if refused != 0 {
         answer::put_block(answer, refused, route::no_walk(), 0);
         return refused;
     }
-    let end = route::follow(file, table, client, opened, key);
-    let stopped = end.reply;
-    if stopped != 0 {
-        answer::put_block(answer, stopped, end.walk, 0);
-        return stopped;
-    }
-    finish_insert(file, table, client, key, payload, answer, opened, end)
+    walk_insert(file, table, client, key, payload, answer)
 }

@@ -3,13 +3,14 @@ use address::Fate;
 use address::Image;
 use file::Header;
 ghost use mathlib.Core.Path.{_≡_};
+ghost use mathlib.Core.Bool.{true};
 ghost use mathlib.Core.List.{_++_, _∷_, []};
 ghost use Prim.Native.Nat.{_+_, _*_, _≤_, _<_};
 ghost use lib.ListN.{length};
 ghost use Rattle.address.specs.Limits.{firstBuckets, mostLevel, mostBuckets};
 ghost use Rattle.address.specs.Room.{ImageRoom};
 ghost use Rattle.address.specs.Rules.{Formed, NotAhead};
-ghost use Rattle.client.specs.Table.{withImage};
+ghost use Rattle.client.specs.Table.{imageOf, recordSound, withImage};
 ghost use Rattle.file.specs.File.{stateOf};
 ghost use Rattle.file.specs.File.Judge.{Known};
 ghost use Rattle.layout.specs.Replies.{reply};
@@ -88,8 +89,8 @@ fn walk_route(file: &[u8], header: Header, image: Image, key: u64) -> End
     let mut walk = no_walk();
     loop {
         walk = note(walk, bucket);
-        let judged = file::judge_bucket(file, header, bucket, key);
         let level = address::level_of(address::FIRST_BUCKETS, state, bucket);
+        let judged = file::judge_bucket(file, header.slots, bucket, level, key);
         let fate = address::fate_at(address::FIRST_BUCKETS, judged.sound, bucket, level, key);
         match fate {
             Fate::Keep => {
@@ -115,61 +116,47 @@ fn walk_route(file: &[u8], header: Header, image: Image, key: u64) -> End
     }
 }
 
-// A call's start: its refusal before any route, or 0 with the header and the client's image.
+// The refusal of a call before any route, in the replies' order: 2 to 4, 5, 6, or 0 for none.
+pub fn refusal(file: &[u8], table: &[u8], client: u64) -> u8
+    ensures { λ r. ⌜ r ≡ reply (early (now (file .entry)) (now (table .entry)) client) 0 ⌝ }
+{
+    let refused = client::caller_refusal(table, client);
+    if refused != 0 {
+        return refused;
+    }
+    let header = file::header_of(file);
+    if !header.sound {
+        return 5;
+    }
+    let image = client::image_of(table, client);
+    let ahead = address::buckets(address::FIRST_BUCKETS, header.state)
+        < address::buckets(address::FIRST_BUCKETS, image);
+    if ahead {
+        return 6;
+    }
+    0
+}
+
+// What a call starts with: the header and the client's image.
 pub struct Opened {
-    pub reply: u8,
     pub header: Header,
     pub image: Image,
 }
 
-// A refused start.
-fn not_opened(reply: u8) -> Opened
-    ensures { λ r. ⌜ r .reply ≡ reply ⌝ }
-{
-    let header = file::no_header();
-    let image = Image {
-        level: 0,
-        pointer: 0,
-    };
-    Opened {
-        reply,
-        header,
-        image,
-    }
-}
-
-// Judges caller, header and image in the replies' order: 2 to 4, 5, 6, or 0.
+// Reads both, where no refusal is due. The judgment does not hand them on: it answers a number, where a struct would go
+// through memory.
 pub fn open(file: &[u8], table: &[u8], client: u64) -> Opened
-    ensures { λ r. ⌜ (r .reply ≡ reply (early (now (file .entry)) (now (table .entry)) client) 0)
-        × (r .reply ≡ 0 → Opening (now (file .entry)) (now (table .entry)) client (r .header) (r .image)) ⌝ }
+    requires { ⌜ reply (early (now file) (now table) client) 0 ≡ 0 ⌝ }
+    ensures { λ r. ⌜ Opening (now (file .entry)) (now (table .entry)) client (r .header) (r .image) ⌝ }
 {
-    let caller = client::caller_of(table, client);
-    let refused = caller.reply;
-    if refused != 0 {
-        return not_opened(refused);
-    }
-    let header = file::header_of(file);
-    if !header.sound {
-        return not_opened(5);
-    }
-    let image = caller.image;
-    let state = header.state;
-    let ahead = address::buckets(address::FIRST_BUCKETS, state)
-        < address::buckets(address::FIRST_BUCKETS, image);
-    if ahead {
-        return not_opened(6);
-    }
-    Opened {
-        reply: 0,
-        header,
-        image,
-    }
+    let header = file::figures(file);
+    let image = client::image_of(table, client);
+    Opened { header, image }
 }
 
 // Follows the key of an opened call to its own bucket: 7, or 0. The table is lent for what is promised of it.
 pub fn follow(file: &[u8], table: &[u8], client: u64, opened: Opened, key: u64) -> End
-    requires { ⌜ (opened .reply ≡ reply (early (now file) (now table) client) 0) × (opened .reply ≡ 0)
-        × Opening (now file) (now table) client (opened .header) (opened .image) ⌝ }
+    requires { ⌜ Opening (now file) (now table) client (opened .header) (opened .image) ⌝ }
     ensures { λ r. ⌜ OnWay (now (file .entry)) (now (table .entry)) client key (r .walk) (r .reply)
         × (r .reply ≡ 0 → AtOwn (now (file .entry)) (now (table .entry)) client key (opened .header) (opened .image)
         (r .walk) (r .bucket) (r .place)) ⌝ }
@@ -177,14 +164,19 @@ pub fn follow(file: &[u8], table: &[u8], client: u64, opened: Opened, key: u64) 
     walk_route(file, opened.header, opened.image, key)
 }
 
-// Writes a client's image after its first bucket did or did not keep the key.
+// Writes a client's image after its first bucket sent the key on; where that kept it, the image stays as it stands.
 pub fn adjust(table: &mut [u8], client: u64, state: Image, image: Image, walk: Walk)
-    requires { ⌜ (8 * client + 8 ≤ length (now table)) × ImageRoom firstBuckets state × (walk .first ≤ mostBuckets)
+    requires { ⌜ (8 * client + 8 ≤ length (now table)) × (recordSound (now table) client ≡ true)
+        × (image ≡ imageOf (now table) client) × ImageRoom firstBuckets state × (walk .first ≤ mostBuckets)
         × (adjustedBy state image walk .level < 256) × (adjustedBy state image walk .pointer < 65536) ⌝ }
     ensures { λ _. ⌜ now (table .exit) ≡ withImage (now (table .entry)) client (adjustedBy state image walk) ⌝ }
 {
+    let kept = walk.count == 1;
+    if kept {
+        return;
+    }
     let first = walk.first;
     let level = address::level_of(address::FIRST_BUCKETS, state, first);
-    let next = address::adjusted(address::FIRST_BUCKETS, image, first, level, walk.count == 1);
+    let next = address::adjusted(address::FIRST_BUCKETS, image, first, level, false);
     client::put_image(table, client, next);
 }

@@ -324,10 +324,11 @@ pub fn scan(
     ensures { λ r. ⌜ leaving r (now (visits .exit)) (now (matches .exit))
         ≡ scan (now (file .entry)) (now (table .entry)) client lift (now (visits .entry)) (now (matches .entry)) ⌝ }
 {
-    let opened = route::open(file, table, client);
-    if opened.reply != 0 {
-        return refused_scan(opened.reply as u32, address::NO_BUCKET);
+    let refused = route::refusal(file, table, client);
+    if refused != 0 {
+        return refused_scan(refused as u32, address::NO_BUCKET);
     }
+    let opened = route::open(file, table, client);
     let header = opened.header;
     let image = opened.image;
     if visits.len() < address::buckets(FIRST_BUCKETS, header.state) as usize {

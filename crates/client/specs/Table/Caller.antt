@@ -1,7 +1,7 @@
 -- A caller judged: its refusals by their cases, and what is known of one that is not refused.
 use Prim.Native.Nat.{ℕ, _+_, _*_, _≤_}
 use mathlib.Core.Path.{_≡_, refl, sym, ap, _∙_}
-use mathlib.Core.Bool.{Bool, true, false, cond, not}
+use mathlib.Core.Bool.{Bool, true, false, cond, not, _&&_}
 use mathlib.Core.List.{List}
 use native.Mathlib.Omega.{arith}
 use borrow.Author.Tests.{not-false}
@@ -12,22 +12,18 @@ use Rattle.address.specs.Room.{ImageRoom}
 use Rattle.address.specs.Rules.{Formed}
 use Rattle.address.specs.Rules.Hash.{span-is, span-mono}
 use Rattle.layout.specs.Replies.{Numbers, reply, reply-none, reply-is, reply-append, numbers-append}
-use Rattle.client.specs.Table.{imageOf, recordSound, tableRefusals, callerRefusals}
-use Rattle.client.specs.Table.Laws.{table-numbers, table-numbered, table-fits, record-image}
+use Rattle.client.specs.Table.{imageOf, recordFormed, imageFormed, recordSound, tableRefusals, callerRefusals}
+use Rattle.client.specs.Table.Laws.{table-numbers, table-numbered, record-fits, record-image, record-both}
 use Rattle.layout.specs.Replies.Passing.{Passes, passes-append, passes-split, passes-on, passes-back, refused-on}
 
 -- what is known of a caller that is not refused
 pub record Calling (table : List ℕ) (client : ℕ) (image : Image) : Type 0 where
   pub there : 8 * client + 8 ≤ length table
+  pub recorded : recordSound table client ≡ true
   pub is : image ≡ imageOf table client
   pub low : image .level ≤ mostLevel
   pub formed : Formed firstBuckets image
   pub room : ImageRoom firstBuckets image
-
--- a caller judged: its reply, and what is known where that is 0
-pub record Called (table : List ℕ) (client r : ℕ) (image : Image) : Type 0 where
-  pub is : r ≡ reply (callerRefusals table client) 0
-  pub calling : r ≡ 0 → Calling table client image
 
 module _ (table : List ℕ) (client : ℕ) where
   -- its numbers are 2, 3 and 4
@@ -64,41 +60,45 @@ module _ (table : List ℕ) (client : ℕ) where
 
   -- the judging function's way, test by test
   module _ {r : ℕ} (er : r ≡ reply (tableRefusals table client) 0) where
-    pub caller-table : {x : ℕ} {image : Image} → (r ≡ 0 → ⊥) → x ≡ r → Called table client x image
-    caller-table some ex = record {
-      is = ex ∙ sym (caller-reply
-          ∙ refused-on (tableRefusals table client) (table-numbered table client) r (sym er) some _);
-      calling = λ e. absurd (some (sym ex ∙ e));
-    }
+    pub caller-table : {x : ℕ} → (r ≡ 0 → ⊥) → x ≡ r → x ≡ reply (callerRefusals table client) 0
+    caller-table some ex = ex ∙ sym (caller-reply
+        ∙ refused-on (tableRefusals table client) (table-numbered table client) r (sym er) some _)
 
-    module _ {sound : Bool} (none : r ≡ 0) (es : sound ≡ recordSound table client) where
-      judged : {b : Bool} → not sound ≡ b → reply (callerRefusals table client) 0 ≡ cond b 4 0
+    module _ (none : r ≡ 0) {formed ranged : Bool} (ef : formed ≡ recordFormed table client) {image : Image}
+        (ei : image ≡ imageOf table client) (ea : ranged ≡ imageFormed image) where
+      judged : {b : Bool} → not (formed && ranged) ≡ b → reply (callerRefusals table client) 0 ≡ cond b 4 0
       judged h = caller-reply
           ∙ passes-on (tableRefusals table client)
           (passes-back (tableRefusals table client) (table-numbered table client) (sym er ∙ none)) _
-          ∙ ap (λ (b : Bool). cond b 4 0) (ap not (sym es) ∙ h)
+          ∙ ap (λ (b : Bool). cond b 4 0)
+          (ap not (sym (record-both table client formed ranged ef (ea ∙ ap imageFormed ei))) ∙ h)
 
-      pub caller-record : {x : ℕ} {image : Image} → not sound ≡ true → x ≡ 4 → Called table client x image
-      caller-record h ex = record { is = ex ∙ sym (judged h); calling = λ e. absurd (omega arith) }
+      pub caller-record : not (formed && ranged) ≡ true → 4 ≡ reply (callerRefusals table client) 0
+      caller-record h = sym (judged h)
 
-      pub caller-fine : {image : Image} → not sound ≡ false → image ≡ imageOf table client
-          → Called table client 0 image
-      caller-fine {image} h e = record { is = sym (judged h); calling = λ _. rw e known }
-        where
-          low : imageOf table client .level ≤ mostLevel
-          low = record-image table client (sym es ∙ not-false _ h) .0
+      pub caller-fine : not (formed && ranged) ≡ false → 0 ≡ reply (callerRefusals table client) 0
+      caller-fine h = sym (judged h)
 
-          formed : Formed firstBuckets (imageOf table client)
-          formed = record-image table client (sym es ∙ not-false _ h) .1
+  -- what is known of a caller that is not refused
+  pub calling : reply (callerRefusals table client) 0 ≡ 0 → {image : Image} → image ≡ imageOf table client
+      → Calling table client image
+  calling none e = rw e (record {
+    there = record-fits table client (passed .0);
+    recorded = passed .1;
+    is = refl;
+    low = low;
+    formed = formed;
+    room = record {
+      levels = record { some = omega arith; few = omega arith; low = omega (arith, low) };
+      near = omega (arith, formed, span-mono firstBuckets low, span-is firstBuckets mostLevel);
+    };
+  })
+    where
+      passed : (reply (tableRefusals table client) 0 ≡ 0) × (recordSound table client ≡ true)
+      passed = caller-passes (passes-back (callerRefusals table client) caller-numbered none)
 
-          known : Calling table client (imageOf table client)
-          known = record {
-            there = table-fits table client er none;
-            is = refl;
-            low = low;
-            formed = formed;
-            room = record {
-              levels = record { some = omega arith; few = omega arith; low = omega (arith, low) };
-              near = omega (arith, formed, span-mono firstBuckets low, span-is firstBuckets mostLevel);
-            };
-          }
+      low : imageOf table client .level ≤ mostLevel
+      low = record-image table client (passed .1) .0
+
+      formed : Formed firstBuckets (imageOf table client)
+      formed = record-image table client (passed .1) .1

@@ -1,27 +1,28 @@
 -- What writing an image keeps: it is read back, every other record stays, so a sound table stays sound.
 -- A record is judged by its own eight bytes.
 use Prim.Native.Nat.{ℕ, _+_, _*_, _/_, _%_, _≤_, _<_}
-use mathlib.Core.Path.{_≡_, sym, ap, ap₂, _∙_}
+use mathlib.Core.Path.{_≡_, refl, sym, ap, ap₂, _∙_}
 use mathlib.Core.Bool.{true, _&&_}
-use mathlib.Core.List.{List, [], _∷_}
+use mathlib.Core.List.{List, [], _∷_, _++_}
 use mathlib.Core.Logic.{by-cases}
 use native.Mathlib.Decide.{ℕ-discrete, decLt}
 use native.Mathlib.Nat.{add-zero}
 use native.Mathlib.Omega.{arith}
-use borrow.Author.Tests.{lt-ltb, ltb-true, le-leb}
+use borrow.Author.Tests.{lt-ltb, ltb-true, le-leb, eqb-true}
 use lib.Dec.{leb, ltb, eqb}
 use lib.ListN.{length, getD}
 use Rattle.address.specs.Limits.{firstBuckets, mostLevel, mostTable}
 use Rattle.address.specs.declared.Image.{Image}
 use Rattle.address.specs.Rules.{Formed, span}
 use Rattle.address.specs.Rules.Hash.{span-is, span-mono}
-use Rattle.layout.specs.Bytes.{leAt}
+use Rattle.layout.specs.Bytes.{Bytes, byteAt, leAt, marked, part}
 use Rattle.layout.specs.Bytes.Tests.{and-left, and-right, and-both, all-at, all-of}
-use Rattle.layout.specs.Bytes.Edit.{length-edit, edit-before, edit-in, edit-after}
-use Rattle.layout.specs.Bytes.Numbers.{le-two, leBytes-two}
+use Rattle.layout.specs.Bytes.Edit.{length-edit, edit-before, edit-in, edit-after, part-split, part-two}
+use Rattle.layout.specs.Bytes.Apart.{edit-same}
+use Rattle.layout.specs.Bytes.Numbers.{le-two, le-again, leBytes-two}
 use Rattle.layout.specs.Replies.{reply}
-use Rattle.client.specs.Table.{lengthSound, exists, imageOf, recordFormed, imageFormed, recordSound, tableSound}
-use Rattle.client.specs.Table.{tableRefusals, imageBytes, withImage}
+use Rattle.client.specs.Table.{clientMark, lengthSound, exists, imageOf, recordFormed, imageFormed, recordSound}
+use Rattle.client.specs.Table.{tableSound, tableRefusals, imageBytes, withImage}
 use Rattle.client.specs.Table.Laws.{not-refused}
 
 -- the eight bytes of an image
@@ -145,6 +146,57 @@ module _ (table : List ℕ) (client : ℕ) (image : Image) (fits : 8 * client + 
             (λ apart. written-other k apart
             ∙ all-at (recordSound table) (length table / 8) k (and-right (lengthSound table) _ h)
             (omega (arith, l, ap (λ (n : ℕ). n / 8) written-length)))
+
+-- a sound record has its own image written, so that writing it again changes nothing
+module _ (table : List ℕ) (client : ℕ) (sound : recordSound table client ≡ true) (bytes : Bytes table) where
+  formed-bytes : (byteAt table (8 * client) ≡ 76) × (byteAt table (8 * client + 1) ≡ 67)
+      × (byteAt table (8 * client + 3) ≡ 0) × (byteAt table (8 * client + 6) ≡ 0) × (byteAt table (8 * client + 7) ≡ 0)
+  unfolding recordSound recordFormed
+  formed-bytes =
+      let h4 = and-left _ _ sound in
+      let h3 = and-left _ _ h4 in
+      let h2 = and-left _ _ h3 in
+      let h1 = and-left _ _ h2 in (
+        eqb-true _ _ (and-left _ _ h1),
+        eqb-true _ _ (and-right (eqb (byteAt table (8 * client)) 76) _ h1),
+        eqb-true _ _ (and-right (marked table (8 * client) clientMark) _ h2),
+        eqb-true _ _
+            (and-right (marked table (8 * client) clientMark && eqb (byteAt table (8 * client + 3)) 0) _ h3),
+        eqb-true _ _
+            (and-right (marked table (8 * client) clientMark && eqb (byteAt table (8 * client + 3)) 0
+            && eqb (byteAt table (8 * client + 6)) 0) _ h4),
+      )
+
+  image-bytes : 8 * client + 8 ≤ length table → part (8 * client) 8 table ≡ imageBytes (imageOf table client)
+  unfolding imageOf imageBytes
+  image-bytes fits =
+      part-split (8 * client) 2 6 table
+      ∙ ap₂ _++_ (two (8 * client) 76 67 (omega arith) (formed-bytes .0) (formed-bytes .1))
+      (part-split (8 * client + 2) 2 4 table
+      ∙ ap₂ _++_ (two (8 * client + 2) _ 0 (omega arith) refl (moved 2 1 3 (omega arith) ∙ formed-bytes .2))
+      (ap (λ (at : ℕ). part at 4 table) four ∙ part-split (8 * client + 4) 2 2 table
+      ∙ ap₂ _++_ (sym (le-again 2 table (8 * client + 4) bytes (omega arith)))
+      (ap (λ (at : ℕ). part at 2 table) six
+      ∙ two (8 * client + 6) 0 0 (omega arith) (formed-bytes .3) (moved 6 1 7 (omega arith) ∙ formed-bytes .4))))
+    where
+      moved : (a b c : ℕ) → a + b ≡ c → byteAt table (8 * client + a + b) ≡ byteAt table (8 * client + c)
+      moved a b c e = ap (byteAt table) (omega arith)
+
+      four : 8 * client + 2 + 2 ≡ 8 * client + 4
+      four = omega arith
+
+      six : 8 * client + 4 + 2 ≡ 8 * client + 6
+      six = omega arith
+
+      two : (at x y : ℕ) → at + 2 ≤ length table → byteAt table at ≡ x → byteAt table (at + 1) ≡ y
+          → part at 2 table ≡ x ∷ y ∷ []
+      two at x y within ex ey = part-two at table within ∙ ap₂ (λ (a b : ℕ). a ∷ b ∷ []) ex ey
+
+  pub written-again : 8 * client + 8 ≤ length table → withImage table client (imageOf table client) ≡ table
+  unfolding withImage
+  written-again fits = edit-same (8 * client) (imageBytes (imageOf table client)) table
+      (room table client (imageOf table client) fits)
+      (ap (λ (n : ℕ). part (8 * client) n table) (long table client (imageOf table client) fits) ∙ image-bytes fits)
 
 -- a sound table has a sound length and sound records; where the length is sound, 2 and 3 do not refuse a client of the
 -- table

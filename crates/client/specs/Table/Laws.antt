@@ -1,21 +1,23 @@
 -- The table's refusals by their cases, and what each function of the crate shows, over plain values.
 use Prim.Native.Nat.{ℕ, _+_, _*_, _/_, _%_, _≤_, _<_}
 use mathlib.Core.Path.{_≡_, refl, sym, ap, ap₂, subst, _∙_}
-use mathlib.Core.Bool.{Bool, true, false, cond, not, _&&_}
+use mathlib.Core.Bool.{Bool, true, false, cond, not, _&&_, and-assoc}
 use mathlib.Core.List.{List, [], _∷_, _++_}
 use mathlib.Core.Logic.{by-cases}
 use native.Mathlib.Decide.{ℕ-discrete, decLt}
 use native.Mathlib.Omega.{arith}
 use borrow.Author.Tests.{lt-ltb, le-ltb, le-leb, lt-leb, ltb-true, leb-true, eq-eqb, ne-eqb}
 use lib.Dec.{leb, ltb, eqb}
-use lib.ListN.{length}
+use mir.Syntax.{w8}
+use mir.Val.{Fits}
+use lib.ListN.{length, getD}
 use Rattle.address.specs.Limits.{firstBuckets, mostLevel, mostTable}
 use Rattle.address.specs.declared.Image.{Image}
 use Rattle.address.specs.Rules.{«at», Formed, span}
 use Rattle.layout.specs.Bytes.{byteAt, leAt, leBytes, marked, edit}
 use Rattle.layout.specs.Bytes.Tests.{and-left, and-right}
 use Rattle.layout.specs.Bytes.Edit.{edit-next}
-use Rattle.layout.specs.Bytes.Numbers.{leBytes-two}
+use Rattle.layout.specs.Bytes.Numbers.{le-eight, leBytes-two, two-same}
 use Rattle.layout.specs.Replies.{Numbers, reply, reply-none, reply-here, reply-past}
 use Rattle.client.specs.Table.{clientMark, lengthSound, exists, imageOf, recordFormed, imageFormed, recordSound}
 use Rattle.client.specs.Table.{tableRefusals, imageBytes, withImage, Joined, join}
@@ -61,22 +63,37 @@ module _ (table : List ℕ) (client : ℕ) where
   pub table-fits : {r : ℕ} → r ≡ reply (tableRefusals table client) 0 → r ≡ 0 → 8 * client + 8 ≤ length table
   table-fits er none = record-fits (sym er ∙ none)
 
-  pub record-judged : (mark : Bool) → mark ≡ marked table (8 * client) clientMark
-      → (mark && eqb (byteAt table (8 * client + 3)) 0 && eqb (byteAt table (8 * client + 6)) 0
-      && eqb (byteAt table (8 * client + 7)) 0) ≡ recordFormed table client
+  -- bytes 3, 6 and 7 of the record, by its word
+  pub record-judged : ((k : ℕ) → Fits w8 (getD table k 0)) → {mark : Bool} {word : ℕ}
+      → mark ≡ marked table (8 * client) clientMark → word ≡ leAt 8 table (8 * client)
+      → (mark && eqb (word / 16777216 % 256) 0 && eqb (word / 281474976710656) 0) ≡ recordFormed table client
   unfolding recordFormed
-  record-judged mark e = rw e
+  record-judged fits {mark} {word} em ew = rw (
+    em,
+    ap (λ (x : ℕ). eqb x 0) third,
+    ap (λ (x : ℕ). eqb x 0) last ∙ two-same (byteAt table (8 * client + 6)) (byteAt table (8 * client + 7)) 0 0
+        (fits (8 * client + 6) .fits) (omega arith),
+  ) (sym (and-assoc (marked table (8 * client) clientMark && eqb (byteAt table (8 * client + 3)) 0)
+      (eqb (byteAt table (8 * client + 6)) 0) (eqb (byteAt table (8 * client + 7)) 0)))
+    where
+      low : (k : ℕ) → byteAt table (8 * client + k) < 256
+      low k = fits (8 * client + k) .fits
+
+      third : word / 16777216 % 256 ≡ byteAt table (8 * client + 3)
+      third = omega (arith, le-eight table (8 * client), fits (8 * client) .fits, low 1, low 2, low 3, low 4, low 5, low 6, low 7)
+
+      last : word / 281474976710656 ≡ byteAt table (8 * client + 6) + byteAt table (8 * client + 7) * 256
+      last = omega (arith, le-eight table (8 * client), fits (8 * client) .fits, low 1, low 2, low 3, low 4, low 5, low 6, low 7)
 
   pub image-read : (l p : ℕ) → l ≡ byteAt table (8 * client + 2) → p ≡ leAt 2 table (8 * client + 4)
       → «at» l p ≡ imageOf table client
   unfolding imageOf
   image-read l p el ep = λ i. record { level = el i; pointer = ep i }
 
-  pub record-both : (formed ranged : Bool) (image : Image) → formed ≡ recordFormed table client
-      → ranged ≡ imageFormed image → image ≡ imageOf table client
-      → (formed && ranged) ≡ recordSound table client
+  pub record-both : (formed ranged : Bool) → formed ≡ recordFormed table client
+      → ranged ≡ imageFormed (imageOf table client) → (formed && ranged) ≡ recordSound table client
   unfolding recordSound
-  record-both formed ranged image ef er ei = ap₂ _&&_ ef (er ∙ ap imageFormed ei)
+  record-both formed ranged ef er = ap₂ _&&_ ef er
 
 -- an image in range, by its cases
 pub image-high : (image : Image) → mostLevel < image .level → imageFormed image ≡ false

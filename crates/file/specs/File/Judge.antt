@@ -8,7 +8,9 @@ use native.Mathlib.Decide.{decLt}
 use native.Mathlib.Omega.{arith}
 use borrow.Author.Tests.{ltb-true, leb-true, eqb-true, lt-leb, le-leb, lt-ltb, eq-eqb, not-true, not-false}
 use lib.Dec.{leb, ltb, eqb}
-use lib.ListN.{length, take, drop}
+use mir.Syntax.{w8}
+use mir.Val.{Fits}
+use lib.ListN.{length, getD}
 use Rattle.address.specs.Limits.{firstBuckets, mostLevel, mostBuckets, mostSlots}
 use Rattle.address.specs.declared.Image.{Image}
 use Rattle.address.specs.Room.{ImageRoom}
@@ -16,7 +18,7 @@ use Rattle.address.specs.Rules.{Formed, span, buckets}
 use Rattle.address.specs.Rules.Hash.{span-is, span-mono}
 use Rattle.address.specs.Rules.Cases.{buckets-is}
 use Rattle.layout.specs.Bytes.{byteAt, leAt, marked, allZero}
-use Rattle.layout.specs.Bytes.Edit.{part-is}
+use Rattle.layout.specs.Bytes.Numbers.{zeros-behind}
 use Rattle.layout.specs.Bytes.Tests.{and-left, and-right, and-none}
 use Rattle.file.specs.declared.Header.{Header}
 use Rattle.file.specs.File.{fileMark, capacityOf, mostOf, slotsOf, stateOf, fileLength, figuresFit, bucketsOf}
@@ -199,10 +201,12 @@ figures-of file header read = λ i. record {
   most = read .most i;
 }
 
--- the fixed bytes, the zeros cut out of the file
-pub fixed-read : (file : List ℕ) {mark zeros : Bool} → mark ≡ marked file 0 fileMark
-    → zeros ≡ allZero (take (16 - firstZero) (drop firstZero file)) → (mark && zeros) ≡ fixedBytes file
-fixed-read file em ez = ap₂ _&&_ em (ez ∙ ap allZero (sym (part-is firstZero (16 - firstZero) file)))
+-- the fixed bytes, the zeros by the word from byte 8 on
+pub fixed-read : (file : List ℕ) → 16 ≤ length file → ((k : ℕ) → Fits w8 (getD file k 0)) → {mark : Bool} {word : ℕ}
+    → mark ≡ marked file 0 fileMark → word ≡ leAt 8 file 8 → (mark && ltb word 256) ≡ fixedBytes file
+fixed-read file long fits em ew = ap₂ _&&_ em
+    (ap (λ (x : ℕ). ltb x 256) ew
+    ∙ zeros-behind (firstZero - 8) (16 - firstZero) file 8 (λ k. fits k .fits) (omega arith))
 
 -- the ranges, and the header's ways: too short, not its fixed bytes, out of range, sound
 module _ (long : ℕ) (header : Header) {fits : Bool}
@@ -295,6 +299,12 @@ known file header e h =
             (arith, ap (λ (x : Image). x .pointer) state, seen .few, seen .figured .few-buckets, buckets-of file);
       };
     }
+
+-- the same from the figures that are read of a sound header
+pub known-read : (file : List ℕ) {header : Header} → headerSound file ≡ true → FiguresOf file header
+    → Known file header
+known-read file {header} sound read = known file header (figures-of file header read ∙ sym (header-sound file sound))
+    (read .sound)
 
 -- the same from the test that the flag has passed, or not
 pub known-passed : (file : List ℕ) (header : Header) → header ≡ headerOf file → not (header .sound) ≡ false

@@ -25,7 +25,7 @@ use Rattle.file.specs.declared.Header.{Header}
 use Rattle.file.specs.File.{mostOf, slotsOf, stateOf, startOf, fileLength, bucketsOf, regionOf, headerSound}
 use Rattle.file.specs.File.{headerOf}
 use Rattle.file.specs.File.{bucketSoundIn, regionSound, fileSound, Checked, lowestUnsound, check, view}
-use Rattle.file.specs.File.Judge.{Ranges, Known, known-passed, unknown-failed}
+use Rattle.file.specs.File.Judge.{Ranges, Known, header-ranges, known-passed, unknown-failed}
 
 -- the machine's room for a place
 pub place-room : (S a : ℕ) → S ≤ mostSlots → a ≤ mostBuckets → a * (8 + 24 * S) ≤ mostBuckets * (8 + 24 * mostSlots)
@@ -89,39 +89,72 @@ module _ (file : List ℕ) (header : Header) (seen : Known file header) where
     known-long h = ap length known-cut ∙ length-region file a (region-fits file (seen .ranges) a h)
         ∙ ap slotAt (sym (seen .slots))
 
-  module _ (a l : ℕ) (exists : a < bucketsOf file) (el : l ≡ level firstBuckets (header .state) a) where
-    pub known-level : Room firstBuckets l
-    known-level =
-        record {
-          some = omega arith;
-          few = omega arith;
-          low = omega (arith, level-high firstBuckets (header .state) a, seen .room .levels .low);
-        }
+-- ---- a bucket of a sound file, by the file's slots and the bucket's level
 
-    pub known-judged : {region : List ℕ} → region ≡ regionOf file a → {sound : Bool}
-        → sound ≡ soundWith (header .slots) l (keeps firstBuckets a l) region
+pub record Standing (file : List ℕ) (S a l : ℕ) : Type 0 where
+  pub sound : headerSound file ≡ true
+  pub slots : S ≡ slotsOf file
+  pub there : a < bucketsOf file
+  pub «at» : l ≡ level firstBuckets (stateOf file) a
+
+pub known-standing : (file : List ℕ) (header : Header) → Known file header → {a l : ℕ} → a < bucketsOf file
+    → l ≡ level firstBuckets (header .state) a → Standing file (header .slots) a l
+known-standing file header seen {a} exists el = record {
+  sound = seen .sound;
+  slots = seen .slots;
+  there = exists;
+  «at» = el ∙ ap (λ (s : Image). level firstBuckets s a) (seen .state);
+}
+
+module _ (file : List ℕ) {S a l : ℕ} (standing : Standing file S a l) where
+  ranges : Ranges file
+  ranges = header-ranges file (standing .sound)
+
+  born : a < mostOf file
+  born = omega (arith, standing .there, ranges .few)
+
+  pub standing-slots : S ≤ mostSlots
+  standing-slots = omega (arith, standing .slots, ranges .figured .few-slots)
+
+  pub standing-low : a ≤ mostBuckets
+  standing-low = omega (arith, born, ranges .figured .few-buckets)
+
+  pub standing-level : Room firstBuckets l
+  standing-level =
+      record {
+        some = omega arith;
+        few = omega arith;
+        low = omega (arith, standing .«at», level-high firstBuckets (stateOf file) a, ranges .low);
+      }
+
+  module _ {place : ℕ} (ep : place ≡ startOf S a) where
+    pub standing-fits : place + (8 + 24 * S) ≤ length file
+    standing-fits = omega
+        (arith, region-fits file ranges a born, ep, ap (λ (n : ℕ). startOf n a) (standing .slots), standing .slots)
+
+    cut : take (place + (8 + 24 * S) - place) (drop place file) ≡ regionOf file a
+    cut = region-cut file S a place (place + (8 + 24 * S)) (standing .slots) ep refl
+
+    pub standing-long : length (take (place + (8 + 24 * S) - place) (drop place file)) ≡ slotAt S
+    standing-long = ap length cut ∙ length-region file a (region-fits file ranges a born)
+        ∙ ap slotAt (sym (standing .slots))
+
+    pub standing-judged : {sound : Bool}
+        → sound ≡ soundWith S l (keeps firstBuckets a l) (take (place + (8 + 24 * S) - place) (drop place file))
         → sound ≡ bucketSoundIn file a
     unfolding bucketSoundIn bucketsOf
-    known-judged er es =
-        es ∙ ap (soundWith (header .slots) l (keeps firstBuckets a l)) er
-        ∙ ap₂ (λ (S k : ℕ). soundWith S k (keeps firstBuckets a k) (regionOf file a)) (seen .slots)
-        (el ∙ ap (λ (s : Image). level firstBuckets s a) (seen .state))
+    standing-judged es =
+        es ∙ ap (soundWith S l (keeps firstBuckets a l)) cut
+        ∙ ap₂ (λ (n k : ℕ). soundWith n k (keeps firstBuckets a k) (regionOf file a)) (standing .slots)
+        (standing .«at»)
         ∙ sym
-        (bucket-judged firstBuckets (omega arith) (stateOf file) (seen .ranges .formed) (slotsOf file) a exists
+        (bucket-judged firstBuckets (omega arith) (stateOf file) (ranges .formed) (slotsOf file) a (standing .there)
         (regionOf file a))
 
-  -- and of the part that is cut out
-  module _ (a at : ℕ) (ea : at ≡ startOf (header .slots) a) where
-    pub cut-judged : {l : ℕ} → a < bucketsOf file → l ≡ level firstBuckets (header .state) a → {sound : Bool}
-        → sound ≡ soundWith (header .slots) l (keeps firstBuckets a l)
-        (take (at + (8 + 24 * header .slots) - at) (drop at file))
-        → sound ≡ bucketSoundIn file a
-    cut-judged {l} exists el es = known-judged a l exists el (known-cut a at ea) es
-
-    pub cut-place : {place : ℕ} (key : ℕ)
-        → place ≡ slotOf (take (at + (8 + 24 * header .slots) - at) (drop at file)) key
-        → place ≡ slotOf (regionOf file a) key
-    cut-place key e = e ∙ ap (λ (bytes : List ℕ). slotOf bytes key) (known-cut a at ea)
+    pub standing-place : {slot : ℕ} (key : ℕ)
+        → slot ≡ slotOf (take (place + (8 + 24 * S) - place) (drop place file)) key
+        → slot ≡ slotOf (regionOf file a) key
+    standing-place key e = e ∙ ap (λ (bytes : List ℕ). slotOf bytes key) cut
 
 -- a region by its cases
 pub region-bucket : (file : List ℕ) (a : ℕ) → a < bucketsOf file → regionSound file a ≡ bucketSoundIn file a

@@ -5,18 +5,19 @@ use mathlib.Core.Bool.{Bool, _&&_, and-assoc, and-true}
 use mathlib.Core.List.{List, [], _∷_, _++_}
 use mathlib.Core.Logic.{by-cases}
 use native.Mathlib.Decide.{ℕ-discrete}
-use native.Mathlib.Nat.{add-zero, zero-add, add-suc, suc-add, add-assoc, pow-suc}
+use native.Mathlib.Nat.{add-zero, zero-add, add-suc, suc-add, add-assoc, mul-zero, mul-assoc, mul-le-mul-left, pow-suc, pow-succ'}
 use native.Mathlib.Numerals.{add-one, add-two, add-three, add-four, add-five, add-six, add-seven}
 use native.Mathlib.Omega.{arith}
-use borrow.Author.Tests.{eq-eqb, ne-eqb}
+use borrow.Author.Tests.{eq-eqb, ne-eqb, lt-ltb, le-ltb}
 use mir.Syntax.{w8}
 use mir.Val.{Fits}
 use lib.Bits.{bitOr, or-zero-l, or-add-and, and-le-r}
-use lib.Dec.{eqb}
+use lib.Dec.{ltb, eqb}
 use lib.ListN.{length, getD, drop}
 use lib.Seq.{drop-cons, getD-drop, getD-append-add}
-use Rattle.layout.specs.Bytes.{Bytes, leAt, leBytes, marked, allBelow, edit, part}
-use Rattle.layout.specs.Bytes.Edit.{part-at, edit-overlap}
+use Rattle.layout.specs.Bytes.{Bytes, leAt, leBytes, marked, allBelow, allZero, edit, part}
+use Rattle.layout.specs.Bytes.Edit.{part-at, length-part, edit-overlap}
+use Rattle.layout.specs.Bytes.Tests.{all-none}
 
 pub length-leBytes : (n x : ℕ) → length (leBytes n x) ≡ n
 unfolding leBytes
@@ -184,6 +185,43 @@ zero-number xs (suc n) at =
     ∙ and-assoc (allBelow (λ i. eqb (getD xs i 0) 0) at) (eqb (getD xs at 0) 0) (eqb (leAt n xs (suc at)) 0)
     ∙ ap (λ (b : Bool). allBelow (λ i. eqb (getD xs i 0) 0) at && b)
     (sym (sum-none (getD xs at 0) (leAt n xs (suc at))))
+
+-- a number's bytes from one on are zero if the number is below that one's worth
+le-split : (n m : ℕ) (xs : List ℕ) (at : ℕ) → leAt (n + m) xs at ≡ leAt n xs at + 256 ^ n * leAt m xs (at + n)
+unfolding leAt
+le-split zero m xs at = rw (zero-add m, add-zero at) (omega arith)
+le-split (suc n) m xs at = rw (suc-add n m) (omega
+    (arith, le-split n m xs (suc at), ap (λ (i : ℕ). 256 ^ n * leAt m xs i) place, worth))
+  where
+    place : suc at + n ≡ at + suc n
+    place = omega arith
+
+    worth : 256 ^ suc n * leAt m xs (at + suc n) ≡ 256 * (256 ^ n * leAt m xs (at + suc n))
+    worth = ap (λ (x : ℕ). x * leAt m xs (at + suc n)) (pow-succ' 256 n) ∙ mul-assoc 256 (256 ^ n) _
+
+pub zeros-behind : (n m : ℕ) (xs : List ℕ) (at : ℕ) → Bytes xs → at + n + m ≤ length xs
+    → ltb (leAt (n + m) xs at) (256 ^ n) ≡ allZero (part (at + n) m xs)
+unfolding allZero
+zeros-behind n m xs at bytes fits = by-cases (ℕ-discrete high 0)
+    (λ e. lt-ltb (leAt (n + m) xs at) (256 ^ n) (omega (arith, le-split n m xs at, le-lt n xs at bytes, mul-none e)) ∙ sym (all ∙ eq-eqb high 0 e))
+    (λ e. le-ltb (leAt (n + m) xs at) (256 ^ n) (omega (arith, le-split n m xs at, mul-some e)) ∙ sym (all ∙ ne-eqb high 0 e))
+  where
+    high : ℕ
+    high = leAt m xs (at + n)
+
+    mul-none : high ≡ 0 → 256 ^ n * leAt m xs (at + n) ≡ 0
+    mul-none e = ap (λ (x : ℕ). 256 ^ n * x) e ∙ mul-zero (256 ^ n)
+
+    mul-some : (high ≡ 0 → ⊥) → 256 ^ n * 1 ≤ 256 ^ n * leAt m xs (at + n)
+    mul-some e = mul-le-mul-left (256 ^ n) (omega (arith, e))
+
+    all : allBelow (λ k. eqb (getD (part (at + n) m xs) k 0) 0) (length (part (at + n) m xs)) ≡ eqb high 0
+    all = ap (allBelow (λ k. eqb (getD (part (at + n) m xs) k 0) 0)) (length-part (at + n) m xs fits ∙ sym (zero-add m))
+        ∙ zero-number (part (at + n) m xs) m 0
+        ∙ ap (λ (b : Bool). b && eqb (leAt m (part (at + n) m xs) 0) 0)
+        (all-none (λ k. eqb (getD (part (at + n) m xs) k 0) 0))
+        ∙ ap (λ (x : ℕ). eqb x 0)
+        (le-part m xs (at + n) m 0 (omega arith) ∙ ap (leAt m xs) (add-zero (at + n)))
 
 pub words-more : (xs : List ℕ) (k seen word : ℕ) → eqb seen 0 ≡ allBelow (λ i. eqb (getD xs i 0) 0) (8 * k)
     → word ≡ leAt 8 xs (8 * k)

@@ -1,6 +1,5 @@
--- `ride::search` refuses a block of another length, refuses early or where its walk stopped, or finishes at the key's
--- own bucket.
-use Rattle.ride.specs.Call.Replied.{search-unfit, search-refused, search-stopped, search-reached}
+-- `ride::search` refuses a block of another length, refuses before any route, or walks.
+use Rattle.ride.specs.Call.Replied.{search-unfit, search-refused, search-walked}
 use borrow.Author.Needs.{needs}
 use Rattle.ride.proofs.search.Statement.{statement}
 use Rattle.ride.proofs.search.Tie as tie
@@ -8,8 +7,8 @@ use Rattle.ride.proofs.search.Tie as tie
 returns : tie.Need-returns
 returns c = search search-unfit
 
-open-requires : tie.Need-open-requires
-open-requires c κs = search needs
+refusal-requires : tie.Need-refusal-requires
+refusal-requires c κs = search needs
 
 no-walk-requires : tie.Need-no-walk-requires
 no-walk-requires c κs = search needs
@@ -26,14 +25,8 @@ same-length-2 c = search needs
 returns-2 : tie.Need-returns-2
 returns-2 c = search search-refused
 
-follow-requires : tie.Need-follow-requires
-follow-requires c κs =
-    let i = c .before in
-    let o = i .before .«open» .ensures in
-    (o .0, i .if2 .left, o .1 (i .if2 .left))
-
-put-block-requires-2 : tie.Need-put-block-requires-2
-put-block-requires-2 c κs = search needs
+walk-search-requires : tie.Need-walk-search-requires
+walk-search-requires c κs = search needs
 
 same-length-3 : tie.Need-same-length-3
 same-length-3 c = search needs
@@ -42,42 +35,20 @@ same-length-4 : tie.Need-same-length-4
 same-length-4 c = search needs
 
 returns-3 : tie.Need-returns-3
-returns-3 c =
-    let i = c .before .before .before .before in
-    search-stopped _ _ _ _ _ (search) (i .before .follow .ensures .0) (i .if3 .taken)
-    (c .before .before .put-block2 .ensures)
-
-finish-search-requires : tie.Need-finish-search-requires
-finish-search-requires c κs =
-    let i = c .before .before in
-    (search, i .before .follow .ensures .1 (i .if3 .left))
-
-same-length-5 : tie.Need-same-length-5
-same-length-5 c = search needs
-
-same-length-6 : tie.Need-same-length-6
-same-length-6 c = search needs
-
-returns-4 : tie.Need-returns-4
-returns-4 c = search search-reached
+returns-3 c = search search-walked
 
 pub search-spec : {M : Type 1} → statement M
 search-spec =
     tie.close
     (tie.spec
     returns
-    open-requires
+    refusal-requires
     no-walk-requires
     put-block-requires
     same-length
     same-length-2
     returns-2
-    follow-requires
-    put-block-requires-2
+    walk-search-requires
     same-length-3
     same-length-4
-    returns-3
-    finish-search-requires
-    same-length-5
-    same-length-6
-    returns-4)
+    returns-3)

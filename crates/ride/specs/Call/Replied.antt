@@ -58,23 +58,17 @@ module _ (file table : List ℕ) (client key : ℕ) (answer : List ℕ) where
       ≡ search file table client key answer
   search-unfit h = routed-block file table client key answer _ ∙ search-is false (ne-eqb (length answer) 24 h)
 
-  module _ (long : length answer ≡ 24) {walk : Walk} {r : ℕ} (way : OnWay file table client key walk r) where
-    fit-search : routed true file table client key answer (searched file table client key)
-        ≡ search file table client key answer
-    fit-search = search-is true (eq-eqb (length answer) 24 long)
-
-    pub search-stopped : {left : List ℕ} → (r ≡ 0 → ⊥) → left ≡ block r (noted walk) 0 noPayload
-        → record { answer = r; block = left; table = table; file = file } ≡ search file table client key answer
-    search-stopped some el = routed-refused file table client key answer _ way some el ∙ fit-search
-
-    pub search-reached : r ≡ 0 → {o : Outcome} → o ≡ searched file table client key
-        → o ≡ search file table client key answer
-    search-reached none eo = routed-reached file table client key answer _ way none eo ∙ fit-search
+  pub search-walked : length answer ≡ 24 → {o : Outcome}
+      → o ≡ routed true file table client key answer (searched file table client key)
+      → o ≡ search file table client key answer
+  search-walked long eo = eo ∙ search-is true (eq-eqb (length answer) 24 long)
 
   pub search-refused : length answer ≡ 24 → {r : ℕ} → r ≡ reply (early file table client) 0 → (walk : Walk)
       → walk .count ≡ 0 → {left : List ℕ} → (r ≡ 0 → ⊥) → left ≡ block r (noted walk) 0 noPayload
       → record { answer = r; block = left; table = table; file = file } ≡ search file table client key answer
-  search-refused long er walk zero some el = search-stopped long (way-refused er {walk = walk} some zero) some el
+  search-refused long er walk zero some el =
+      search-walked long
+      (routed-refused file table client key answer _ (way-refused er {walk = walk} some zero) some el)
 
 pub search-single : (file table : List ℕ) (client key : ℕ) (answer : List ℕ) (o p : Outcome)
     → o ≡ search file table client key answer → p ≡ search file table client key answer → o ≡ p
@@ -94,25 +88,18 @@ module _ (file table : List ℕ) (client key : ℕ) (payload answer : List ℕ) 
       ≡ insert file table client key payload answer
   insert-unfit h = routed-block file table client key answer _ ∙ insert-is false (not-true _ h)
 
-  module _ (fits : not (eqb (length answer) 24 && eqb (length payload) 14) ≡ false) {walk : Walk} {r : ℕ}
-      (way : OnWay file table client key walk r) where
-    fit-insert : routed true file table client key answer (placed file table client key payload)
-        ≡ insert file table client key payload answer
-    fit-insert = insert-is true (not-false _ fits)
-
-    pub insert-stopped : {left : List ℕ} → (r ≡ 0 → ⊥) → left ≡ block r (noted walk) 0 noPayload
-        → record { answer = r; block = left; table = table; file = file } ≡ insert file table client key payload answer
-    insert-stopped some el = routed-refused file table client key answer _ way some el ∙ fit-insert
-
-    pub insert-reached : r ≡ 0 → {o : Outcome} → o ≡ placed file table client key payload
-        → o ≡ insert file table client key payload answer
-    insert-reached none eo = routed-reached file table client key answer _ way none eo ∙ fit-insert
+  pub insert-walked : not (eqb (length answer) 24 && eqb (length payload) 14) ≡ false → {o : Outcome}
+      → o ≡ routed true file table client key answer (placed file table client key payload)
+      → o ≡ insert file table client key payload answer
+  insert-walked fits eo = eo ∙ insert-is true (not-false _ fits)
 
   pub insert-refused : not (eqb (length answer) 24 && eqb (length payload) 14) ≡ false → {r : ℕ}
       → r ≡ reply (early file table client) 0 → (walk : Walk) → walk .count ≡ 0 → {left : List ℕ} → (r ≡ 0 → ⊥)
       → left ≡ block r (noted walk) 0 noPayload
       → record { answer = r; block = left; table = table; file = file } ≡ insert file table client key payload answer
-  insert-refused fits er walk zero some el = insert-stopped fits (way-refused er {walk = walk} some zero) some el
+  insert-refused fits er walk zero some el =
+      insert-walked fits
+      (routed-refused file table client key answer _ (way-refused er {walk = walk} some zero) some el)
 
 pub insert-single : (file table : List ℕ) (client key : ℕ) (payload answer : List ℕ) (o p : Outcome)
     → o ≡ insert file table client key payload answer → p ≡ insert file table client key payload answer → o ≡ p

@@ -4,6 +4,7 @@ use borrow.Author.Needs.{needs}
 use Prim.Native.Nat.{_≤_, _-_}
 use Rattle.route.specs.Way.Route.{Walking, wayFrom, behind-room, level-room, walk-starts, walk-there, walk-keeps}
 use Rattle.route.specs.Way.Route.{walk-stops, walk-sends, walk-short, walked-way}
+use Rattle.file.specs.File.Region.{known-standing}
 use Rattle.route.proofs.walk_route.Statement.{statement}
 use Rattle.route.proofs.walk_route.Tie as tie
 
@@ -26,11 +27,11 @@ loop-holds c = (search needs, search walk-starts)
 note-requires : tie.Need-note-requires Inv-loop μ-loop
 note-requires c κs = search needs
 
-judge-bucket-requires : tie.Need-judge-bucket-requires Inv-loop μ-loop
-judge-bucket-requires c κs = (search, search walk-there)
-
 level-of-requires : tie.Need-level-of-requires Inv-loop μ-loop
 level-of-requires c κs = search needs
+
+judge-bucket-requires : tie.Need-judge-bucket-requires Inv-loop μ-loop
+judge-bucket-requires c κs = search (known-standing, walk-there)
 
 fate-at-requires : tie.Need-fate-at-requires Inv-loop μ-loop
 fate-at-requires c κs = search level-room
@@ -66,8 +67,8 @@ walk-route-spec =
     no-walk-requires
     loop-holds
     note-requires
-    judge-bucket-requires
     level-of-requires
+    judge-bucket-requires
     fate-at-requires
     enum-told
     returns

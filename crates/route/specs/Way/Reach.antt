@@ -2,24 +2,27 @@
 -- image after the call, by the first bucket and whether that kept the key.
 use Prim.Native.Nat.{ℕ, suc, _+_, _*_, _≤_, _<_}
 use mathlib.Core.Path.{_≡_, refl, sym, ap, ap₂, _∙_}
-use mathlib.Core.Bool.{Bool, true, cond, not}
+use mathlib.Core.Bool.{Bool, true, false, cond, not}
 use mathlib.Core.List.{List, [], _∷_, _++_, append-assoc}
 use mathlib.Core.Logic.{⊎-elim}
 use native.Mathlib.Omega.{arith}
 use borrow.Author.Tests.{lt-ltb, eq-eqb, ne-eqb, not-false}
 use lib.Dec.{eqb}
+use mir.Syntax.{w8}
+use mir.Val.{Fits}
 use lib.ListN.{length, getD}
 use Rattle.address.specs.Compare.{same}
 use Rattle.address.specs.Limits.{firstBuckets, noBucket, mostLevel, mostBuckets}
 use Rattle.address.specs.declared.Image.{Image}
 use Rattle.address.specs.Rules.{Formed, NotAhead, hash, address, level, keeps, adjusted, imageAfter, route}
-use Rattle.address.specs.Rules.Cases.{buckets-is, keeps-yes, keeps-no}
+use Rattle.address.specs.Rules.Cases.{buckets-is, keeps-yes, keeps-no, adjusted-kept}
 use Rattle.address.specs.Rules.Route.{Delivered, last, last-one, delivered, route-right, first-exists, first-right}
 use Rattle.address.specs.Rules.Adjust.{imageAfter-is, after-formed, after-behind}
 use Rattle.layout.specs.Replies.{Numbers, Refusal, refuse, reply, reply-none, reply-is, reply-append, reply-among}
 use Rattle.layout.specs.Replies.{reply-else, numbers-append}
 use Rattle.bucket.specs.Region.{slotOf, every}
-use Rattle.client.specs.Table.{imageOf, withImage}
+use Rattle.client.specs.Table.{imageOf, recordSound, withImage}
+use Rattle.client.specs.Table.Keeping.{written-again}
 use Rattle.layout.specs.Replies.Passing.{passes-split, passes-on, passes-back, refused-on}
 use Rattle.file.specs.File.{mostOf, stateOf, bucketsOf, regionOf, bucketSoundIn}
 use Rattle.file.specs.File.Judge.{Known, state-small, buckets-of}
@@ -206,6 +209,8 @@ pub record AtOwn (file table : List ℕ) (client key : ℕ) (header : Header) (i
     : Type 0 where
   pub known : Known file header
   pub there : 8 * client + 8 ≤ length table
+  pub recorded : recordSound table client ≡ true
+  pub is : image ≡ imageOf table client
   pub exists : a < bucketsOf file
   pub good : bucketSoundIn file a ≡ true
   pub few : walk .count ≤ 3
@@ -217,63 +222,78 @@ pub record AtOwn (file table : List ℕ) (client key : ℕ) (header : Header) (i
   pub near : adjustedBy (header .state) image walk .pointer < 65536
   pub after : adjustedBy (header .state) image walk ≡ imageAfter firstBuckets (stateOf file) (imageOf table client) key
 
-module _ {file table : List ℕ} {client r : ℕ} (er : r ≡ reply (early file table client) 0) where
-  -- refused before any route
-  pub way-refused : {key : ℕ} {walk : Walk} → (r ≡ 0 → ⊥) → walk .count ≡ 0 → OnWay file table client key walk r
-  way-refused {key} {walk} some none = record {
-    few = omega arith;
-    is = sym (way-reply file table client key
-        ∙ refused-on (early file table client) (early-numbered file table client) r (sym er) some _);
-    met = noted-none walk none ∙ sym (met-none file table client key (λ e. some (er ∙ e)));
+-- refused before any route
+pub way-refused : {file table : List ℕ} {client r : ℕ} → r ≡ reply (early file table client) 0 → {key : ℕ} {walk : Walk}
+    → (r ≡ 0 → ⊥) → walk .count ≡ 0 → OnWay file table client key walk r
+way-refused {file} {table} {client} {r} er {key} {walk} some none = record {
+  few = omega arith;
+  is = sym (way-reply file table client key
+      ∙ refused-on (early file table client) (early-numbered file table client) r (sym er) some _);
+  met = noted-none walk none ∙ sym (met-none file table client key (λ e. some (er ∙ e)));
+}
+
+-- or walked, to an unsound bucket or to the key's own
+module _ {file table : List ℕ} {client : ℕ} {header : Header} {image : Image}
+    (o : Opening file table client header image)
+    {key : ℕ} {walk : Walk} {a place s : ℕ} (walked : Walked file key (wayOf file image key) walk a place s) where
+  pub way-walked : OnWay file table client key walk s
+  way-walked = record {
+    few = walked .few;
+    is = walked .is ∙ sym (way-reply file table client key
+        ∙ passes-on (early file table client)
+        (passes-back (early file table client) (early-numbered file table client) (o .passed)) _
+        ∙ ap (λ (i : Image). cond (not (every (bucketSoundIn file) (wayOf file i key))) 7 0) (sym (o .is)));
+    met = walked .met ∙ ap (λ (i : Image). cut (bucketSoundIn file) (wayOf file i key)) (o .is)
+        ∙ sym (met-route file table client key (o .passed));
   }
 
-  -- or walked, to an unsound bucket or to the key's own
-  module _ (none : r ≡ 0) {header : Header} {image : Image} (o : Opening file table client header image)
-      {key : ℕ} {walk : Walk} {a place s : ℕ} (walked : Walked file key (wayOf file image key) walk a place s) where
-    pub way-walked : OnWay file table client key walk s
-    way-walked = record {
-      few = walked .few;
-      is = walked .is ∙ sym (way-reply file table client key
-          ∙ passes-on (early file table client)
-          (passes-back (early file table client) (early-numbered file table client) (sym er ∙ none)) _
-          ∙ ap (λ (i : Image). cond (not (every (bucketSoundIn file) (wayOf file i key))) 7 0) (sym (o .is)));
-      met = walked .met ∙ ap (λ (i : Image). cut (bucketSoundIn file) (wayOf file i key)) (o .is)
-          ∙ sym (met-route file table client key (sym er ∙ none));
-    }
+  pub way-own : s ≡ 0 → AtOwn file table client key header image walk a place
+  way-own kept = record {
+    known = o .known;
+    there = o .there;
+    recorded = o .recorded;
+    is = o .is;
+    exists = ended .there;
+    good = ended .good;
+    few = walked .few;
+    way = ended .whole ∙ ap (λ (i : Image). wayOf file i key) (o .is);
+    own = ended .own;
+    slot = ended .slot;
+    first = first-small file header (o .known) image (o .formed) (o .behind) key walk (walked .few) a place ended;
+    low = omega (arith, ap (λ (i : Image). i .level) after, small);
+    near = omega (arith, ap (λ (i : Image). i .pointer) after, small);
+    after = after ∙ ap (λ (i : Image). imageAfter firstBuckets (stateOf file) i key) (o .is);
+  }
+    where
+      ended : Ended file key (wayOf file image key) walk a place
+      ended = walked .ended kept
 
-    pub way-own : s ≡ 0 → AtOwn file table client key header image walk a place
-    way-own kept = record {
-      known = o .known;
-      there = o .there;
-      exists = ended .there;
-      good = ended .good;
-      few = walked .few;
-      way = ended .whole ∙ ap (λ (i : Image). wayOf file i key) (o .is);
-      own = ended .own;
-      slot = ended .slot;
-      first = first-small file header (o .known) image (o .formed) (o .behind) key walk (walked .few) a place ended;
-      low = omega (arith, ap (λ (i : Image). i .level) after, small);
-      near = omega (arith, ap (λ (i : Image). i .pointer) after, small);
-      after = after ∙ ap (λ (i : Image). imageAfter firstBuckets (stateOf file) i key) (o .is);
-    }
-      where
-        ended : Ended file key (wayOf file image key) walk a place
-        ended = walked .ended kept
+      after : adjustedBy (header .state) image walk ≡ imageAfter firstBuckets (stateOf file) image key
+      after = after-is file header (o .known) image (o .formed) (o .behind) key walk (walked .few) a place ended
+          (level firstBuckets (header .state) (walk .first)) refl
 
-        after : adjustedBy (header .state) image walk ≡ imageAfter firstBuckets (stateOf file) image key
-        after = after-is file header (o .known) image (o .formed) (o .behind) key walk (walked .few) a place ended
-            (level firstBuckets (header .state) (walk .first)) refl
-
-        small : (imageAfter firstBuckets (stateOf file) image key .level ≤ mostLevel)
-            × (imageAfter firstBuckets (stateOf file) image key .pointer ≤ mostBuckets)
-        small = after-small file (o .known) image (o .formed) (o .behind) key
+      small : (imageAfter firstBuckets (stateOf file) image key .level ≤ mostLevel)
+          × (imageAfter firstBuckets (stateOf file) image key .pointer ≤ mostBuckets)
+      small = after-small file (o .known) image (o .formed) (o .behind) key
 
 -- ---- the image that is written
 
-module _ (state image : Image) (walk : Walk) {l : ℕ} (el : l ≡ level firstBuckets state (walk .first)) {next : Image}
-    (en : next ≡ adjusted firstBuckets image (walk .first) l (eqb (walk .count) 1)) where
+-- none where the first bucket kept the key: the record has it
+pub kept-written : (table : List ℕ) (client : ℕ) (state image : Image) (walk : Walk) → 8 * client + 8 ≤ length table
+    → recordSound table client ≡ true → image ≡ imageOf table client → ((k : ℕ) → Fits w8 (getD table k 0))
+    → eqb (walk .count) 1 ≡ true → table ≡ withImage table client (adjustedBy state image walk)
+kept-written table client state image walk fits sound e bytes kept = sym
+    (ap (withImage table client)
+    (ap (adjusted firstBuckets image (walk .first) (level firstBuckets state (walk .first))) kept
+    ∙ adjusted-kept firstBuckets image (walk .first) (level firstBuckets state (walk .first)) ∙ e)
+    ∙ written-again table client sound (λ k. bytes k .fits) fits)
+
+module _ (state image : Image) (walk : Walk) (sent : eqb (walk .count) 1 ≡ false) {l : ℕ}
+    (el : l ≡ level firstBuckets state (walk .first)) {next : Image}
+    (en : next ≡ adjusted firstBuckets image (walk .first) l false) where
   next-is : next ≡ adjustedBy state image walk
-  next-is = en ∙ ap (λ (x : ℕ). adjusted firstBuckets image (walk .first) x (eqb (walk .count) 1)) el
+  next-is = en ∙ ap₂ (λ (x : ℕ) (b : Bool). adjusted firstBuckets image (walk .first) x b) el
+      (sym sent)
 
   pub next-low : adjustedBy state image walk .level < 256 → next .level < 256
   next-low h = omega (arith, ap (λ (i : Image). i .level) next-is, h)

@@ -1,12 +1,12 @@
 -- `scan::scan` refuses 2 to 6 and 11, and scans along the visit order of the client's image.
 use borrow.Author.Needs.{needs}
 use Rattle.scan.specs.Scan.Replied.{scan-early, opened-short, opened-long}
-use Rattle.scan.specs.Scan.Way.{starting, starting-state-room, starting-long}
+use Rattle.scan.specs.Scan.Way.{starting, starting-long}
 use Rattle.scan.proofs.scan.Statement.{statement}
 use Rattle.scan.proofs.scan.Tie as tie
 
-open-requires : tie.Need-open-requires
-open-requires c κs = search needs
+refusal-requires : tie.Need-refusal-requires
+refusal-requires c κs = search needs
 
 cast-refused-scan : tie.Need-cast-refused-scan
 cast-refused-scan c = search needs
@@ -17,10 +17,11 @@ refused-scan-requires c κs = search needs
 returns : tie.Need-returns
 returns c = search scan-early
 
+open-requires : tie.Need-open-requires
+open-requires c κs = search needs
+
 buckets-requires : tie.Need-buckets-requires
-buckets-requires c κs =
-    let passed = c .before .before in
-    starting-state-room (passed .before .before .«open» .ensures .1) (passed .if1 .left)
+buckets-requires c κs = search needs
 
 cast-if2 : tie.Need-cast-if2
 cast-if2 c = search needs
@@ -29,20 +30,10 @@ refused-scan-requires-2 : tie.Need-refused-scan-requires-2
 refused-scan-requires-2 c κs = search needs
 
 returns-2 : tie.Need-returns-2
-returns-2 c =
-    let count = c .before .before in
-    let passed = count .before .before .before in
-    let opened = passed .before .before .«open» in
-    opened-short (opened .ensures .0) (opened .ensures .1) (passed .if1 .left) (count .buckets .ensures) _ _ _
-    (c .before .if2 .taken) (c .refused-scan2 .ensures)
+returns-2 c = search opened-short
 
 collect-noting-requires : tie.Need-collect-noting-requires
-collect-noting-requires c κs =
-    let long = c .before .before in
-    let count = long .before in
-    let passed = count .before .before .before in
-    let given = starting (passed .before .before .«open» .ensures .1) (passed .if1 .left) in
-    (given, starting-long given (count .buckets .ensures) (long .if2 .left))
+collect-noting-requires c κs = (search starting, search (starting-long, starting))
 
 same-length : tie.Need-same-length
 same-length c = search needs
@@ -57,10 +48,11 @@ pub scan-spec : {M : Type 1} → statement M
 scan-spec =
     tie.close
     (tie.spec
-    open-requires
+    refusal-requires
     cast-refused-scan
     refused-scan-requires
     returns
+    open-requires
     buckets-requires
     cast-if2
     refused-scan-requires-2

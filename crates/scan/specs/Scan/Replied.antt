@@ -163,21 +163,19 @@ module _ (file table : List ℕ) (client lift : ℕ) (visits matches : List ℕ)
       → p ≡ scan file table client lift visits matches → o ≡ p
   scan-single o p eo ep = eo ∙ sym ep
 
--- a scan by a client that was opened with reply n, 0: the header counts the buckets
-module _ {file table : List ℕ} {client n : ℕ} (is : n ≡ reply (early file table client) 0) {header : Header}
-    {image : Image} (opened : n ≡ 0 → Opening file table client header image) (zero : n ≡ 0) {b : ℕ}
+-- a scan that was opened: the header counts the buckets
+module _ {file table : List ℕ} {client : ℕ} {header : Header} {image : Image}
+    (o : Opening file table client header image) {b : ℕ}
     (all : b ≡ buckets firstBuckets (header .state)) (lift : ℕ) (visits matches : List ℕ) where
-  none : reply (early file table client) 0 ≡ 0
-  none = sym is ∙ zero
-
   exist : b ≡ bucketsOf file
-  exist = buckets-known file header (opened zero .known) b all
+  exist = buckets-known file header (o .known) b all
 
   pub opened-short : {r : ScanAnswer} → length visits < b → r ≡ refusal 11 noBucket
       → leaving r visits matches ≡ scan file table client lift visits matches
-  opened-short short er = scan-short file table client lift visits matches none er (omega (arith, exist))
+  opened-short short er = scan-short file table client lift visits matches (o .passed) er (omega (arith, exist))
 
-  pub opened-long : {o : Scanned} → b ≤ length visits → o ≡ collected file lift (visitsOf file image) visits matches
-      → o ≡ scan file table client lift visits matches
-  opened-long long eo = scan-long file table client lift visits matches none (omega (arith, exist)) image eo
-      (opened zero .is)
+  pub opened-long : {left : Scanned} → b ≤ length visits
+      → left ≡ collected file lift (visitsOf file image) visits matches
+      → left ≡ scan file table client lift visits matches
+  opened-long long el = scan-long file table client lift visits matches (o .passed) (omega (arith, exist)) image el
+      (o .is)

@@ -104,14 +104,9 @@ pub record Starting (file : List ℕ) (header : Header) (image : Image) : Type 0
   pub formed : Formed firstBuckets image
   pub behind : NotAhead firstBuckets (stateOf file) image
 
-pub starting : {file table : List ℕ} {client n : ℕ} {header : Header} {image : Image}
-    → (n ≡ 0 → Opening file table client header image) → n ≡ 0 → Starting file header image
-starting opened passed =
-    let o = opened passed in record { known = o .known; low = o .low; formed = o .formed; behind = o .behind }
-
-pub starting-state-room : {file table : List ℕ} {client n : ℕ} {header : Header} {image : Image}
-    → (n ≡ 0 → Opening file table client header image) → n ≡ 0 → ImageRoom firstBuckets (header .state)
-starting-state-room opened passed = opened passed .known .room
+pub starting : {file table : List ℕ} {client : ℕ} {header : Header} {image : Image}
+    → Opening file table client header image → Starting file header image
+starting o = record { known = o .known; low = o .low; formed = o .formed; behind = o .behind }
 
 module _ {file : List ℕ} {header : Header} {image : Image} (given : Starting file header image) where
   pub starting-buckets : (n : ℕ) → n ≡ buckets firstBuckets (header .state) → n ≡ bucketsOf file
