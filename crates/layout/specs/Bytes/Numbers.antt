@@ -185,14 +185,15 @@ zero-number xs (suc n) at =
     ∙ ap (λ (b : Bool). allBelow (λ i. eqb (getD xs i 0) 0) at && b)
     (sym (sum-none (getD xs at 0) (leAt n xs (suc at))))
 
+-- what was seen so far and a word more, and the same by the words' number
+pub word-more : (xs : List ℕ) (at seen word : ℕ) → eqb seen 0 ≡ allBelow (λ i. eqb (getD xs i 0) 0) at
+    → word ≡ leAt 8 xs at → eqb (bitOr seen word) 0 ≡ allBelow (λ i. eqb (getD xs i 0) 0) (at + 8)
+word-more xs at seen word so e = or-none seen word ∙ ap₂ _&&_ so (ap (λ (x : ℕ). eqb x 0) e) ∙ sym (zero-number xs 8 at)
+
 pub words-more : (xs : List ℕ) (k seen word : ℕ) → eqb seen 0 ≡ allBelow (λ i. eqb (getD xs i 0) 0) (8 * k)
     → word ≡ leAt 8 xs (8 * k)
     → eqb (bitOr seen word) 0 ≡ allBelow (λ i. eqb (getD xs i 0) 0) (8 * (k + 1))
-words-more xs k seen word so e =
-    or-none seen word
-    ∙ ap₂ _&&_ so (ap (λ (x : ℕ). eqb x 0) e)
-    ∙ sym (zero-number xs 8 (8 * k))
-    ∙ ap (allBelow (λ i. eqb (getD xs i 0) 0)) place
+words-more xs k seen word so e = word-more xs (8 * k) seen word so e ∙ ap (allBelow (λ i. eqb (getD xs i 0) 0)) place
   where
     place : 8 * k + 8 ≡ 8 * (k + 1)
     place = omega arith
