@@ -3,11 +3,11 @@ ghost use mathlib.Core.Path.{_≡_};
 ghost use mathlib.Core.Bool.{_&&_, not, cond, true, false};
 ghost use Prim.Native.Nat.{ℕ, _+_, _*_, _-_, _≤_, _<_};
 ghost use lib.Dec.{eqb};
-ghost use lib.ListN.{length, replicate};
+ghost use lib.ListN.{length, drop, replicate};
 ghost use Rattle.address.specs.Limits.{mostSlots};
 ghost use Rattle.address.specs.Room.{Room};
 ghost use Rattle.address.specs.Rules.{keeps};
-ghost use Rattle.layout.specs.Bytes.{leBytes, firstFrom, edit};
+ghost use Rattle.layout.specs.Bytes.{leBytes, allZero, firstFrom, edit};
 ghost use Rattle.bucket.specs.Region.{slotAt, slotUsed, keyAt, headSound, soundWith, slotOf, slotBytes};
 ghost use Rattle.bucket.specs.Region.Single.{fingerprints, fingerprint, latestOf, Chained};
 ghost use Rattle.bucket.specs.Region.Single.{SlotsJudged, SoughtAt};
@@ -15,8 +15,8 @@ ghost use Rattle.bucket.specs.Region.Single.{SlotsJudged, SoughtAt};
 // How many fingerprints of keys there are.
 const FINGERPRINTS: usize = 512;
 
-// Up to so many slots are compared with one another, more are chained.
-const MOST_PAIRED: usize = 8;
+// Up to so many slots are few: their keys are compared with one another, and unused ones are read slot by slot.
+const FEW: usize = 8;
 
 // Whether a head is well formed, of the level given and with a count of at most `slots`.
 fn head_sound(region: &[u8], slots: u32, level: u32) -> bool
@@ -197,7 +197,7 @@ fn slots_sound(region: &[u8], count: usize, first: u32, bucket: u32, level: u32,
     requires { ⌜ Room first level × (slotAt count ≤ length (now region)) × (count ≤ mostSlots) ⌝ }
     ensures { λ r. ⌜ SlotsJudged (keeps first bucket level) (now (region .entry)) count key (r .sound) (r .place) ⌝ }
 {
-    if count <= MOST_PAIRED {
+    if count <= FEW {
         return slots_paired(region, count, first, bucket, level, key);
     }
     let mut latest = [0u8; FINGERPRINTS];
@@ -214,6 +214,36 @@ fn slots_sound(region: &[u8], count: usize, first: u32, bucket: u32, level: u32,
     )
 }
 
+// Whether the slots from a number on are all zero, three words each.
+fn slots_zero(region: &[u8], from: usize, slots: usize) -> bool
+    requires { ⌜ (length (now region) ≡ slotAt slots) × (slots ≤ mostSlots) × (from ≤ slots) ⌝ }
+    ensures { λ r. ⌜ r ≡ allZero (drop (slotAt from) (now (region .entry))) ⌝ }
+{
+    let mut seen = 0;
+    let mut k = from;
+    while k < slots {
+        let at = 8 + 24 * k;
+        seen = seen
+            | layout::read8(region, at)
+            | layout::read8(region, at + 8)
+            | layout::read8(region, at + 16);
+        k = k + 1;
+    }
+    seen == 0
+}
+
+// Whether the unused slots are all zero: few are read slot by slot.
+fn rest_zero(region: &[u8], count: usize, slots: u32) -> bool
+    requires { ⌜ (length (now region) ≡ slotAt slots) × (slots ≤ mostSlots) × (count ≤ slots) ⌝ }
+    ensures { λ r. ⌜ r ≡ allZero (drop (slotAt count) (now (region .entry))) ⌝ }
+{
+    if slots as usize <= FEW {
+        return slots_zero(region, count, slots as usize);
+    }
+    let rest = 8 + 24 * count;
+    layout::is_zero(&region[rest..])
+}
+
 // Judges a region as that of a bucket of a level, and finds a key in it.
 pub fn judge(region: &[u8], slots: u32, first: u32, bucket: u32, level: u32, key: u64) -> Judged
     requires { ⌜ Room first level × (length (now region) ≡ slotAt slots) × (slots ≤ mostSlots) ⌝ }
@@ -228,9 +258,8 @@ pub fn judge(region: &[u8], slots: u32, first: u32, bucket: u32, level: u32, key
     if !judged.sound {
         return unsound();
     }
-    let rest = 8 + 24 * count;
     Judged {
-        sound: layout::is_zero(&region[rest..]),
+        sound: rest_zero(region, count, slots),
         place: judged.place,
     }
 }

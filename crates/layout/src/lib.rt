@@ -12,27 +12,43 @@ pub fn wide(x: u8) -> u64
     x as u64
 }
 
-// The number of two bytes at a place.
+// The number of the first two bytes.
+fn first2(bytes: &[u8]) -> u64
+    requires { ⌜ 2 ≤ length (now bytes) ⌝ }
+    ensures { λ r. ⌜ (r ≡ leAt 2 (now (bytes .entry)) 0) × (r < 65536) ⌝ }
+{
+    wide(bytes[0]) + wide(bytes[1]) * 256
+}
+
+// The number of two bytes at a place. They are cut out first: then the places are constant, and it is one load.
 pub fn read2(bytes: &[u8], at: usize) -> u64
     requires { ⌜ at + 2 ≤ length (now bytes) ⌝ }
     ensures { λ r. ⌜ (r ≡ leAt 2 (now (bytes .entry)) at) × (r < 65536) ⌝ }
 {
-    wide(bytes[at]) + wide(bytes[at + 1]) * 256
+    first2(&bytes[at..at + 2])
 }
 
-// The number of eight bytes at a place.
+// The number of the first eight bytes.
+fn first8(bytes: &[u8]) -> u64
+    requires { ⌜ 8 ≤ length (now bytes) ⌝ }
+    ensures { λ r. ⌜ r ≡ leAt 8 (now (bytes .entry)) 0 ⌝ }
+{
+    wide(bytes[0])
+        + wide(bytes[1]) * 256
+        + wide(bytes[2]) * 65536
+        + wide(bytes[3]) * 16777216
+        + wide(bytes[4]) * 4294967296
+        + wide(bytes[5]) * 1099511627776
+        + wide(bytes[6]) * 281474976710656
+        + wide(bytes[7]) * 72057594037927936
+}
+
+// The number of eight bytes at a place, cut out likewise.
 pub fn read8(bytes: &[u8], at: usize) -> u64
     requires { ⌜ at + 8 ≤ length (now bytes) ⌝ }
     ensures { λ r. ⌜ r ≡ leAt 8 (now (bytes .entry)) at ⌝ }
 {
-    wide(bytes[at])
-        + wide(bytes[at + 1]) * 256
-        + wide(bytes[at + 2]) * 65536
-        + wide(bytes[at + 3]) * 16777216
-        + wide(bytes[at + 4]) * 4294967296
-        + wide(bytes[at + 5]) * 1099511627776
-        + wide(bytes[at + 6]) * 281474976710656
-        + wide(bytes[at + 7]) * 72057594037927936
+    first8(&bytes[at..at + 8])
 }
 
 // Whether a mark stands at a place: two bytes compared as one number.

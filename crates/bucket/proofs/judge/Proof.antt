@@ -2,7 +2,7 @@
 -- slot comes from the slots' pass.
 use borrow.Author.Needs.{needs}
 use Rattle.bucket.specs.Region.Told.{unsound-nowhere, head-unsound, count-within, count-most, slots-unsound}
-use Rattle.bucket.specs.Region.Told.{rest-judged, place-judged}
+use Rattle.bucket.specs.Region.Told.{count-few, rest-judged, place-judged}
 use Rattle.bucket.proofs.judge.Statement.{statement}
 use Rattle.bucket.proofs.judge.Tie as tie
 
@@ -27,23 +27,8 @@ unsound-requires-2 c κs = search needs
 returns-2 : tie.Need-returns-2
 returns-2 c = (search slots-unsound, search unsound-nowhere)
 
-mul-rest : tie.Need-mul-rest
-mul-rest c = search needs
-
-add-rest : tie.Need-add-rest
-add-rest c = search needs
-
-sub-is-zero : tie.Need-sub-is-zero
-sub-is-zero c = search (count-within, needs)
-
-part-is-zero-start : tie.Need-part-is-zero-start
-part-is-zero-start c = sub-is-zero c
-
-part-is-zero-end : tie.Need-part-is-zero-end
-part-is-zero-end c = search needs
-
-is-zero-requires : tie.Need-is-zero-requires
-is-zero-requires c κs = search needs
+rest-zero-requires : tie.Need-rest-zero-requires
+rest-zero-requires c κs = (search needs, search needs, search count-few)
 
 returns-3 : tie.Need-returns-3
 returns-3 c = (search rest-judged, search place-judged)
@@ -59,10 +44,5 @@ judge-spec =
     slots-sound-requires
     unsound-requires-2
     returns-2
-    mul-rest
-    add-rest
-    sub-is-zero
-    part-is-zero-start
-    part-is-zero-end
-    is-zero-requires
+    rest-zero-requires
     returns-3)

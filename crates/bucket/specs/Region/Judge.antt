@@ -9,8 +9,7 @@ use native.Mathlib.Numerals.{add-one}
 use native.Mathlib.Omega.{arith}
 use borrow.Author.Tests.{eq-eqb, leb-true, not-true, not-false}
 use lib.Dec.{leb, eqb}
-use lib.ListN.{length, take, drop, length-drop}
-use lib.Seq.{take-all}
+use lib.ListN.{drop}
 use Rattle.address.specs.Compare.{below}
 use Rattle.address.specs.Rules.{hash, keeps}
 use Rattle.address.specs.Rules.Cases.{keeps-is}
@@ -229,12 +228,8 @@ module _ (S j : ℕ) (own : ℕ → Bool) (region : List ℕ) (head : Bool) (n :
       pub judged-slots : not slots ≡ true → false ≡ soundWith S j own region
       judged-slots h = sym (unsound-slots S j own region headed (sym counted ∙ not-true slots h))
 
-      pub judged-rest : not slots ≡ false → (rest : Bool)
-          → rest ≡ allZero (take (length region - (8 + 24 * n)) (drop (8 + 24 * n) region))
+      pub judged-rest : not slots ≡ false → (rest : Bool) → rest ≡ allZero (drop (slotAt n) region)
           → rest ≡ soundWith S j own region
       judged-rest fine rest er = er
-          ∙ ap allZero
-          (take-all (length region - (8 + 24 * n)) (drop (8 + 24 * n) region)
-          (omega (arith, length-drop (8 + 24 * n) region)))
-          ∙ ap (λ (m : ℕ). allZero (drop (8 + 24 * m) region)) en
+          ∙ ap (λ (m : ℕ). allZero (drop (slotAt m) region)) en
           ∙ sym (sound-slots S j own region headed (sym counted ∙ not-false slots fine))

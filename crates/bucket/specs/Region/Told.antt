@@ -6,8 +6,10 @@ use mathlib.Core.Bool.{Bool, true, false, cond, not, _&&_, false≢true}
 use mathlib.Core.List.{List}
 use native.Mathlib.Omega.{arith}
 use borrow.Author.Tests.{eq-eqb, ne-eqb, not-true, not-false}
+use borrow.Rule.Slice.PartAt.{part-to-end}
+use lib.Bits.{bitOr}
 use lib.Dec.{eqb}
-use lib.ListN.{length, getD, set, take, drop, replicate, length-replicate}
+use lib.ListN.{length, getD, set, take, drop, replicate, length-drop, length-replicate}
 use lib.Seq.{take-length}
 use mir.Facts.{fits-8-64}
 use mir.Syntax.{w8, w64}
@@ -16,7 +18,8 @@ use Rattle.address.specs.Limits.{mostSlots}
 use Rattle.address.specs.Rules.{keeps}
 use Rattle.layout.specs.Bytes.{leAt, leBytes, allBelow, allZero, firstFrom, edit, part}
 use Rattle.layout.specs.Bytes.Edit.{part-front}
-use Rattle.layout.specs.Bytes.Tests.{first-here, first-later, first-none}
+use Rattle.layout.specs.Bytes.Numbers.{le-drop, word-more}
+use Rattle.layout.specs.Bytes.Tests.{all-none, zero-done, first-here, first-later, first-none}
 use Rattle.bucket.specs.Region.{slotAt, slotMark, slotUsed, keyAt, ridesFrom, keysOf, distinct, headSound}
 use Rattle.bucket.specs.Region.{soundWith, slotOf, slotBytes}
 use Rattle.bucket.specs.Region.Judge.{fitting, fits-more, fits-told, judged-head, judged-few, judged-slots}
@@ -162,6 +165,58 @@ module _ (region : List ℕ) (count k : ℕ) {latests before : List ℕ} (so : C
       (so .within) end fits
       (chain-done region count k latests before so end) (place-sought region key count found place sought e)
 
+-- ---- the unused slots: what was seen of them so far is zero if every byte of them is
+
+pub record Seen (region : List ℕ) (from slots k seen : ℕ) : Type 0 where
+  pub behind : from ≤ k
+  pub within : k ≤ slots
+  pub is : eqb seen 0 ≡ allBelow (λ i. eqb (getD (drop (slotAt from) region) i 0) 0) (24 * (k - from))
+
+pub seen-none : (region : List ℕ) (from slots : ℕ) → from ≤ slots → Seen region from slots from 0
+seen-none region from slots h = record {
+  behind = omega arith;
+  within = h;
+  is = sym (ap (allBelow (λ i. eqb (getD (drop (slotAt from) region) i 0) 0)) none
+      ∙ all-none (λ i. eqb (getD (drop (slotAt from) region) i 0) 0));
+}
+  where
+    none : 24 * (from - from) ≡ 0
+    none = omega arith
+
+module _ (region : List ℕ) (from slots k seen : ℕ) (so : Seen region from slots k seen) where
+  pub seen-more : k < slots → {one two three : ℕ} → one ≡ leAt 8 region (slotAt k) → two ≡ leAt 8 region (slotAt k + 8)
+      → three ≡ leAt 8 region (slotAt k + 16)
+      → Seen region from slots (k + 1) (bitOr (bitOr (bitOr seen one) two) three)
+  seen-more more {one} {two} {three} first second third = record {
+    behind = omega arith;
+    within = omega arith;
+    is =
+        word (24 * (k - from) + 8 + 8) (bitOr (bitOr seen one) two) third (omega arith)
+        (word (24 * (k - from) + 8) (bitOr seen one) second (omega arith)
+        (word (24 * (k - from)) seen first (omega arith) (so .is)))
+        ∙ ap (allBelow (λ i. eqb (getD (drop (slotAt from) region) i 0) 0)) next;
+  }
+    where
+      -- a word of the region, among the bytes behind the used slots
+      word : (at before : ℕ) {new place : ℕ} → new ≡ leAt 8 region place → place ≡ slotAt from + at
+          → eqb before 0 ≡ allBelow (λ i. eqb (getD (drop (slotAt from) region) i 0) 0) at
+          → eqb (bitOr before new) 0 ≡ allBelow (λ i. eqb (getD (drop (slotAt from) region) i 0) 0) (at + 8)
+      word at before {new} is here zero = word-more (drop (slotAt from) region) at before new zero
+          (is ∙ ap (leAt 8 region) here ∙ sym (le-drop 8 region (slotAt from) at))
+
+      next : 24 * (k - from) + 8 + 8 + 8 ≡ 24 * (k + 1 - from)
+      next = omega arith
+
+  pub seen-done : length region ≡ slotAt slots → slots ≤ k → eqb seen 0 ≡ allZero (drop (slotAt from) region)
+  seen-done long end = zero-done (drop (slotAt from) region) (24 * (k - from)) (eqb seen 0)
+      (omega (arith, length-drop (slotAt from) region)) (omega (arith, length-drop (slotAt from) region)) (so .is)
+
+-- and all bytes behind the used slots, cut out of the region
+pub rest-cut : (region : List ℕ) (count : ℕ) {rest : Bool}
+    → rest ≡ allZero (take (length region - slotAt count) (drop (slotAt count) region))
+    → rest ≡ allZero (drop (slotAt count) region)
+rest-cut region count e = e ∙ ap allZero (part-to-end region (slotAt count))
+
 -- ---- the whole region: head, slots and unused bytes in turn
 
 pub unsound-nowhere : {sound : Bool} → sound ≡ false → {place other : ℕ} → sound ≡ true → place ≡ other
@@ -173,14 +228,14 @@ module _ (S j : ℕ) (region : List ℕ) {head : Bool} (is : head ≡ headSound 
   head-unsound bad own e = e ∙ judged-head S j own region head (leAt 2 region 4) is refl bad
 
   module _ (fine : not head ≡ false) {n : ℕ} (en : n ≡ leAt 2 region 4) where
-    few : n ≤ S
-    few = judged-few S j (λ key. true) region head n is en fine
+    pub count-few : n ≤ S
+    count-few = judged-few S j (λ key. true) region head n is en fine
 
     pub count-within : length region ≡ slotAt S → slotAt n ≤ length region
-    count-within e = omega (arith, few)
+    count-within e = omega (arith, count-few)
 
     pub count-most : S ≤ mostSlots → n ≤ mostSlots
-    count-most h = omega (arith, few)
+    count-most h = omega (arith, count-few)
 
     module _ {own : ℕ → Bool} {key : ℕ} {slots : Bool} {place : ℕ} (told : SlotsJudged own region n key slots place)
       where
@@ -188,8 +243,7 @@ module _ (S j : ℕ) (region : List ℕ) {head : Bool} (is : head ≡ headSound 
         slots-unsound bad e = e ∙ judged-slots S j own region head n is en fine slots (told .tested) bad
 
         module _ (good : not slots ≡ false) where
-          pub rest-judged : {rest : Bool}
-              → rest ≡ allZero (take (length region - (8 + 24 * n)) (drop (8 + 24 * n) region))
+          pub rest-judged : {rest : Bool} → rest ≡ allZero (drop (slotAt n) region)
               → rest ≡ soundWith S j own region
           rest-judged {rest} e = judged-rest S j own region head n is en fine slots (told .tested) good rest e
 

@@ -1,43 +1,28 @@
--- `layout::read2`: the sum of the two bytes is the number.
-use native.Mathlib.Omega.{arith}
-use Rattle.layout.specs.Bytes.Numbers.{two-read}
+-- `layout::read2`: the number in the part that is cut out is the one at its place.
 use borrow.Author.Needs.{needs}
+use Rattle.layout.specs.Bytes.Numbers.{cut-read}
 use Rattle.layout.proofs.read2.Statement.{statement}
 use Rattle.layout.proofs.read2.Tie as tie
 
-shared-slice-read-wide : tie.Need-shared-slice-read-wide
-shared-slice-read-wide c = search needs
+add-first2 : tie.Need-add-first2
+add-first2 c = search needs
 
-wide-requires : tie.Need-wide-requires
-wide-requires c κs = search needs
+sub-first2 : tie.Need-sub-first2
+sub-first2 c = search needs
 
-add-wide : tie.Need-add-wide
-add-wide c = search needs
+part-first2-start : tie.Need-part-first2-start
+part-first2-start c = search needs
 
-shared-slice-read-wide-2 : tie.Need-shared-slice-read-wide-2
-shared-slice-read-wide-2 c = search needs
+part-first2-end : tie.Need-part-first2-end
+part-first2-end c = search needs
 
-wide-requires-2 : tie.Need-wide-requires-2
-wide-requires-2 c κs = search needs
-
-mul-result : tie.Need-mul-result
-mul-result c = search needs
-
-add-result : tie.Need-add-result
-add-result c = search needs
+first2-requires : tie.Need-first2-requires
+first2-requires c κs = search needs
 
 returns : tie.Need-returns
-returns c = (search two-read, omega arith)
+returns c = (search cut-read, search needs)
 
 pub read2-spec : {M : Type 1} → statement M
 read2-spec =
     tie.close
-    (tie.spec
-    shared-slice-read-wide
-    wide-requires
-    add-wide
-    shared-slice-read-wide-2
-    wide-requires-2
-    mul-result
-    add-result
-    returns)
+    (tie.spec add-first2 sub-first2 part-first2-start part-first2-end first2-requires returns)

@@ -1,11 +1,12 @@
 -- Numbers of several bytes: read after written, written after read, and read past a write. Each goes byte by byte.
-use Prim.Native.Nat.{ℕ, zero, suc, _+_, _*_, _/_, _%_, _^_, _≤_, _<_}
+use Prim.Native.Nat.{ℕ, zero, suc, _+_, _*_, _/_, _%_, _^_, _-_, _≤_, _<_}
 use mathlib.Core.Path.{_≡_, refl, sym, ap, ap₂, _∙_}
 use mathlib.Core.Bool.{Bool, _&&_, and-assoc, and-true}
 use mathlib.Core.List.{List, [], _∷_, _++_}
 use mathlib.Core.Logic.{by-cases}
 use native.Mathlib.Decide.{ℕ-discrete}
-use native.Mathlib.Nat.{add-zero, zero-add, add-suc, suc-add, add-assoc, mul-zero, mul-assoc, mul-le-mul-left, pow-suc, pow-succ'}
+use native.Mathlib.Nat.{add-zero, zero-add, add-suc, suc-add, add-assoc, mul-zero, mul-assoc, mul-le-mul-left, pow-suc}
+use native.Mathlib.Nat.{pow-succ'}
 use native.Mathlib.Numerals.{add-one, add-two, add-three, add-four, add-five, add-six, add-seven}
 use native.Mathlib.Omega.{arith}
 use borrow.Author.Tests.{eq-eqb, ne-eqb, lt-ltb, le-ltb}
@@ -13,7 +14,7 @@ use mir.Syntax.{w8}
 use mir.Val.{Fits}
 use lib.Bits.{bitOr, or-zero-l, or-add-and, and-le-r}
 use lib.Dec.{ltb, eqb}
-use lib.ListN.{length, getD, drop}
+use lib.ListN.{length, getD, take, drop}
 use lib.Seq.{drop-cons, getD-drop, getD-append-add}
 use Rattle.layout.specs.Bytes.{Bytes, leAt, leBytes, marked, allBelow, allZero, edit, part}
 use Rattle.layout.specs.Bytes.Edit.{part-at, length-part, edit-overlap}
@@ -76,7 +77,7 @@ le-again (suc n) xs at b fits = rw (drop-cons xs at 0 (omega arith))
     high : (getD xs at 0 + 256 * leAt n xs (suc at)) / 256 ≡ leAt n xs (suc at)
     high = omega (arith, b at)
 
--- the sums that compile to one load
+-- the number of two bytes as their sum, and of eight
 pub le-two : (xs : List ℕ) (at : ℕ) → getD xs at 0 + getD xs (at + 1) 0 * 256 ≡ leAt 2 xs at
 unfolding leAt
 le-two xs at = rw (add-one at) (omega arith)
@@ -90,17 +91,17 @@ unfolding leAt
 le-eight xs at = rw (add-one at, add-two at, add-three at, add-four at, add-five at, add-six at, add-seven at)
     (omega arith)
 
--- and what the code reads of them
-pub two-read : (xs : List ℕ) (at : ℕ) {a b : ℕ} → a ≡ getD xs at 0 → b ≡ getD xs (at + 1) 0 → a + b * 256 ≡ leAt 2 xs at
-two-read xs at p q = omega (arith, le-two xs at)
+-- the sums that compile to one load, as the code reads them at a list's start
+pub two-read : (xs : List ℕ) {a b : ℕ} → a ≡ getD xs 0 0 → b ≡ getD xs 1 0 → a + b * 256 ≡ leAt 2 xs 0
+two-read xs p q = omega (arith, le-two xs 0)
 
-pub eight-read : (xs : List ℕ) (at : ℕ) {a b c d e f g h : ℕ} → a ≡ getD xs at 0 → b ≡ getD xs (at + 1) 0
-    → c ≡ getD xs (at + 2) 0 → d ≡ getD xs (at + 3) 0 → e ≡ getD xs (at + 4) 0 → f ≡ getD xs (at + 5) 0
-    → g ≡ getD xs (at + 6) 0 → h ≡ getD xs (at + 7) 0
+pub eight-read : (xs : List ℕ) {a b c d e f g h : ℕ} → a ≡ getD xs 0 0 → b ≡ getD xs 1 0 → c ≡ getD xs 2 0
+    → d ≡ getD xs 3 0 → e ≡ getD xs 4 0 → f ≡ getD xs 5 0 → g ≡ getD xs 6 0 → h ≡ getD xs 7 0
     → a + b * 256 + c * 65536 + d * 16777216 + e * 4294967296 + f * 1099511627776 + g * 281474976710656
     + h * 72057594037927936
-    ≡ leAt 8 xs at
-eight-read xs at p q r s t u v w = omega (arith, le-eight xs at)
+    ≡ leAt 8 xs 0
+unfolding leAt
+eight-read xs p q r s t u v w = omega arith
 
 -- the bytes that one store writes
 pub leBytes-two : (x : ℕ) → leBytes 2 x ≡ x % 256 ∷ x / 256 % 256 ∷ []
@@ -143,6 +144,15 @@ le-seam n ps xs at e = sym
 pub le-part : (n : ℕ) (xs : List ℕ) (s m at : ℕ) → at + n ≤ m → leAt n (part s m xs) at ≡ leAt n xs (s + at)
 le-part n xs s m at h = le-same n (part s m xs) xs at (s + at)
     (λ k l. part-at s m xs (at + k) (omega arith) ∙ ap (λ (i : ℕ). getD xs i 0) (sym (add-assoc s at k)))
+
+-- and at the start of a part that is cut out for it
+pub cut-read : (n : ℕ) (xs : List ℕ) (at : ℕ) {x : ℕ} → x ≡ leAt n (take (at + n - at) (drop at xs)) 0 → x ≡ leAt n xs at
+unfolding part
+cut-read n xs at e = e ∙ ap (λ (m : ℕ). leAt n (take m (drop at xs)) 0) wide ∙ le-part n xs at n 0 (omega arith)
+    ∙ ap (leAt n xs) (add-zero at)
+  where
+    wide : at + n - at ≡ n
+    wide = omega arith
 
 -- two bytes are another two exactly if their numbers are equal
 pub two-same : (x y p q : ℕ) → x < 256 → p < 256 → eqb (x + y * 256) (p + q * 256) ≡ (eqb x p && eqb y q)
@@ -223,14 +233,15 @@ zeros-behind n m xs at bytes fits = by-cases (ℕ-discrete high 0)
         ∙ ap (λ (x : ℕ). eqb x 0)
         (le-part m xs (at + n) m 0 (omega arith) ∙ ap (leAt m xs) (add-zero (at + n)))
 
+-- what was seen so far and a word more, and the same by the words' number
+pub word-more : (xs : List ℕ) (at seen word : ℕ) → eqb seen 0 ≡ allBelow (λ i. eqb (getD xs i 0) 0) at
+    → word ≡ leAt 8 xs at → eqb (bitOr seen word) 0 ≡ allBelow (λ i. eqb (getD xs i 0) 0) (at + 8)
+word-more xs at seen word so e = or-none seen word ∙ ap₂ _&&_ so (ap (λ (x : ℕ). eqb x 0) e) ∙ sym (zero-number xs 8 at)
+
 pub words-more : (xs : List ℕ) (k seen word : ℕ) → eqb seen 0 ≡ allBelow (λ i. eqb (getD xs i 0) 0) (8 * k)
     → word ≡ leAt 8 xs (8 * k)
     → eqb (bitOr seen word) 0 ≡ allBelow (λ i. eqb (getD xs i 0) 0) (8 * (k + 1))
-words-more xs k seen word so e =
-    or-none seen word
-    ∙ ap₂ _&&_ so (ap (λ (x : ℕ). eqb x 0) e)
-    ∙ sym (zero-number xs 8 (8 * k))
-    ∙ ap (allBelow (λ i. eqb (getD xs i 0) 0)) place
+words-more xs k seen word so e = word-more xs (8 * k) seen word so e ∙ ap (allBelow (λ i. eqb (getD xs i 0) 0)) place
   where
     place : 8 * k + 8 ≡ 8 * (k + 1)
     place = omega arith
