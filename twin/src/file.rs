@@ -2,12 +2,12 @@
 
 use crate::bucket::{self, HEAD_LENGTH, MOST_SLOTS, SLOT_LENGTH};
 use crate::rules::State;
-use crate::{reply, NONE};
+use crate::{judge, reply, NONE};
 
 const HEADER_LENGTH: usize = 16;
-const MARK: [u8; 2] = *b"LF";
+const MARK: u16 = u16::from_le_bytes(*b"LF");
 const MOST_BUCKETS: u64 = 4_096;
-const HIGHEST_LEVEL: u8 = 12;
+const HIGHEST_LEVEL: u32 = 12;
 
 /// A sound header, read once in a call.
 #[derive(Clone, Copy, Debug)]
@@ -19,6 +19,7 @@ pub struct Header {
 }
 
 /// Whether the figures are in range and the length is theirs.
+#[inline]
 fn figures_fit(length: usize, capacity: u64, slots: u64, most: u64) -> bool {
     let in_range = (1..=MOST_SLOTS as u64).contains(&slots)
         && (1..=slots).contains(&capacity)
@@ -26,6 +27,7 @@ fn figures_fit(length: usize, capacity: u64, slots: u64, most: u64) -> bool {
     in_range && length == HEADER_LENGTH + most as usize * region_length(slots as usize)
 }
 
+#[inline]
 fn region_length(slots: usize) -> usize {
     HEAD_LENGTH + SLOT_LENGTH * slots
 }
@@ -35,22 +37,22 @@ impl Header {
     #[inline]
     pub fn read(file: &[u8]) -> Option<Header> {
         let head: &[u8; HEADER_LENGTH] = file.first_chunk()?;
-        let [first, second, level, capacity, n_low, n_high, m_low, m_high, slots, zeros @ ..] = *head;
-        let pointer = u32::from(u16::from_le_bytes([n_low, n_high]));
-        let most = u16::from_le_bytes([m_low, m_high]);
-        if [first, second] != MARK
-            || zeros != [0; 7]
-            || level > HIGHEST_LEVEL
-            || !figures_fit(file.len(), capacity.into(), slots.into(), most.into())
-        {
+        let first = bucket::word(&head[..8]);
+        let level = u32::from((first >> 16) as u8);
+        let capacity = u64::from((first >> 24) as u8);
+        let pointer = u32::from((first >> 32) as u16);
+        let most = first >> 48;
+        // One byte and the zeros behind it: if one of those is not zero, this number is out of range.
+        let slots = bucket::word(&head[8..]);
+        if first as u16 != MARK || level > HIGHEST_LEVEL || !figures_fit(file.len(), capacity, slots, most) {
             return None;
         }
-        let state = State { level: level.into(), pointer };
-        let most = most.into();
-        if pointer >= 1 << level || state.bucket_count() > most {
+        let state = State { level, pointer };
+        let most = most as u32;
+        if pointer >> level != 0 || state.bucket_count() > most {
             return None;
         }
-        Some(Header { state, capacity: capacity.into(), slots: slots.into(), most })
+        Some(Header { state, capacity: capacity as usize, slots: slots as usize, most })
     }
 
     /// Where a bucket's region starts in the file.
@@ -60,19 +62,25 @@ impl Header {
     }
 
     #[inline]
+    pub fn region_at<'file>(&self, file: &'file [u8], start: usize) -> &'file [u8] {
+        &file[start..start + region_length(self.slots)]
+    }
+
+    #[inline]
     pub fn region<'file>(&self, file: &'file [u8], bucket: u32) -> &'file [u8] {
-        &file[self.region_start(bucket)..self.region_start(bucket + 1)]
+        self.region_at(file, self.region_start(bucket))
     }
 
     #[inline]
     pub fn region_mut<'file>(&self, file: &'file mut [u8], bucket: u32) -> &'file mut [u8] {
-        &mut file[self.region_start(bucket)..self.region_start(bucket + 1)]
+        &mut file[self.region_start(bucket)..][..region_length(self.slots)]
     }
 
-    /// One bucket's count of records, if the bucket is sound; `look` sees each slot and key.
-    #[inline]
-    pub fn judge(&self, file: &[u8], bucket: u32, look: impl FnMut(usize, u64)) -> Option<usize> {
-        bucket::judge(self.region(file, bucket), bucket, self.state.level_of(bucket), look)
+    /// A bucket's count of records, if it is sound.
+    #[inline(always)]
+    pub fn judge(&self, file: &[u8], bucket: u32) -> Option<usize> {
+        let (region, level) = (self.region(file, bucket), self.state.level_of(bucket));
+        bucket::count_of(region, level).filter(|&count| judge::sound(region, count, bucket, level))
     }
 }
 
@@ -87,7 +95,7 @@ pub fn create(file: &mut [u8], capacity: u64, slots: u64, most: u64) -> u8 {
         return reply::FIGURES;
     }
     file.fill(0);
-    file[..2].copy_from_slice(&MARK);
+    file[..2].copy_from_slice(&MARK.to_le_bytes());
     file[3] = capacity as u8;
     file[6..8].copy_from_slice(&(most as u16).to_le_bytes());
     file[8] = slots as u8;
@@ -115,7 +123,7 @@ pub fn check(file: &[u8]) -> CheckAnswer {
 
 fn lowest_unsound(header: &Header, file: &[u8]) -> Option<u32> {
     let buckets = header.state.bucket_count();
-    let bucket = (0..buckets).find(|&bucket| header.judge(file, bucket, |_, _| ()).is_none());
+    let bucket = (0..buckets).find(|&bucket| header.judge(file, bucket).is_none());
     bucket.or_else(|| {
         let past = header.region_start(buckets);
         if bucket::all_zero(&file[past..]) {
@@ -148,7 +156,7 @@ pub fn split(file: &mut [u8]) -> SplitAnswer {
     if new_bucket == header.most {
         return SplitAnswer::refused(reply::ALL_BUCKETS, NONE.into());
     }
-    let Some(count) = header.judge(file, old_bucket, |_, _| ()) else {
+    let Some(count) = header.judge(file, old_bucket) else {
         return SplitAnswer::refused(reply::UNSOUND, old_bucket);
     };
     if !bucket::all_zero(header.region(file, new_bucket)) {
@@ -177,7 +185,7 @@ pub fn view(file: &[u8], bucket: u64) -> ViewAnswer {
         return ViewAnswer::default();
     }
     let bucket = bucket as u32;
-    match header.judge(file, bucket, |_, _| ()) {
+    match header.judge(file, bucket) {
         None | Some(0) => ViewAnswer::default(),
         Some(count) => {
             let start = header.region_start(bucket) + HEAD_LENGTH;

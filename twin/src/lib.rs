@@ -4,6 +4,7 @@
 pub mod bucket;
 pub mod client;
 pub mod file;
+pub mod judge;
 pub mod random;
 pub mod ride;
 pub mod ridefile;

@@ -1,88 +1,102 @@
 //! Insert and search: one key's ride from bucket to bucket.
 
-use crate::bucket::{self, PAYLOAD_LENGTH};
+use crate::bucket::{self, Payload};
 use crate::client;
 use crate::file::Header;
 use crate::rules::{self, State};
-use crate::{reply, NONE};
+use crate::{judge, reply};
 
 const ANSWER_LENGTH: usize = 24;
-const LONGEST_ROUTE: usize = 3;
-const ROUTE_START: usize = 2;
 const FLAG: usize = 8;
 const PAYLOAD_START: usize = 10;
+const NO_PAYLOAD: Payload = [0; bucket::PAYLOAD_LENGTH];
 
 type Answer = [u8; ANSWER_LENGTH];
 
-/// The buckets that a key came by, in order.
-#[derive(Default)]
-struct Route {
-    buckets: [u16; LONGEST_ROUTE],
-    count: usize,
-}
+/// The buckets that a key came by, as the answer's first eight bytes have them without the reply: in the second byte
+/// how many they are, then three numbers, 65,535 where unused.
+#[derive(Clone, Copy)]
+struct Route(u64);
 
 impl Route {
-    fn push(&mut self, bucket: u32) {
-        self.buckets[self.count] = bucket as u16;
-        self.count += 1;
+    const NONE: Route = Route(0xFFFF_FFFF_FFFF_0000);
+
+    #[inline]
+    fn of_one(bucket: u32) -> Route {
+        Route(0xFFFF_FFFF_0000_0100 | u64::from(bucket) << 16)
+    }
+
+    #[inline]
+    fn is_of_one(self) -> bool {
+        self.0 >> 8 & 0xFF == 1
+    }
+
+    #[inline]
+    fn then(self, bucket: u32) -> Route {
+        let unused = 16 + 16 * (self.0 >> 8 & 0xFF);
+        Route((self.0 ^ (0xFFFF ^ u64::from(bucket)) << unused) + 0x100)
+    }
+
+    /// Fills the answer.
+    #[inline]
+    fn answer(self, answer: &mut Answer, reply: u8, flag: u8, payload: &Payload) -> u8 {
+        answer[..FLAG].copy_from_slice(&(self.0 | u64::from(reply)).to_le_bytes());
+        answer[FLAG..PAYLOAD_START].copy_from_slice(&[flag, 0]);
+        answer[PAYLOAD_START..].copy_from_slice(payload);
+        reply
     }
 }
 
 /// A key at the bucket that keeps it.
 struct Arrival {
     header: Header,
-    bucket: u32,
+    route: Route,
+    level: u32,
+    region_start: usize,
     count: usize,
-    /// The slot that holds the key.
-    holder: Option<usize>,
+    /// The slot that holds the key; the count if none does.
+    holder: usize,
     image: State,
     next_image: State,
 }
 
-/// Rides to the key's bucket, reading only, or stops with a refusal 2 to 7.
-#[inline]
-fn ride(file: &[u8], table: &[u8], client: u64, key: u64, route: &mut Route) -> Result<Arrival, u8> {
-    let image = client::image_of(table, client)?;
-    let header = Header::read(file).ok_or(reply::HEADER)?;
+/// A ride that stopped with a refusal 2 to 7.
+struct Stop(u8, Route);
+
+/// Rides to the key's bucket, reading only.
+#[inline(always)]
+fn ride(file: &[u8], table: &[u8], client: u64, key: u64) -> Result<Arrival, Stop> {
+    let refused = |reply| Stop(reply, Route::NONE);
+    let image = client::image_of(table, client).map_err(refused)?;
+    let header = Header::read(file).ok_or(refused(reply::HEADER))?;
     if image.bucket_count() > header.state.bucket_count() {
-        return Err(reply::AHEAD);
+        return Err(refused(reply::AHEAD));
     }
     let mut bucket = image.address(key);
+    let mut route = Route::of_one(bucket);
     let mut next_image = image;
     loop {
-        route.push(bucket);
-        let mut holder = None;
-        let look = |slot, held| {
-            if held == key {
-                holder = Some(slot);
-            }
-        };
-        let count = header.judge(file, bucket, look).ok_or(reply::UNSOUND)?;
         let level = header.state.level_of(bucket);
-        let Some(next) = rules::onward(bucket, level, key) else {
-            return Ok(Arrival { header, bucket, count, holder, image, next_image });
+        let region_start = header.region_start(bucket);
+        let region = header.region_at(file, region_start);
+        let Some(count) = bucket::count_of(region, level) else {
+            return Err(Stop(reply::UNSOUND, route));
         };
-        if route.count == 1 {
+        let Some(holder) = judge::find(region, count, bucket, level, key) else {
+            return Err(Stop(reply::UNSOUND, route));
+        };
+        let Some(next) = rules::onward(bucket, level, key) else {
+            return Ok(Arrival { header, route, level, region_start, count, holder, image, next_image });
+        };
+        if route.is_of_one() {
             next_image = image.adjusted(bucket, level);
         }
         bucket = next;
+        route = route.then(bucket);
     }
 }
 
-/// Fills the block for a reply and its route; flag and payload are zero.
 #[inline]
-fn write_answer(answer: &mut Answer, reply: u8, route: &Route) -> u8 {
-    *answer = [0; ANSWER_LENGTH];
-    answer[0] = reply;
-    answer[1] = route.count as u8;
-    let places = answer[ROUTE_START..FLAG].chunks_exact_mut(2);
-    for (at, (place, bucket)) in places.zip(route.buckets).enumerate() {
-        let number = if at < route.count { bucket } else { NONE };
-        place.copy_from_slice(&number.to_le_bytes());
-    }
-    reply
-}
-
 fn adjust(table: &mut [u8], client: u64, arrival: &Arrival) {
     if arrival.next_image != arrival.image {
         client::write_image(table, client, arrival.next_image);
@@ -91,30 +105,23 @@ fn adjust(table: &mut [u8], client: u64, arrival: &Arrival) {
 
 /// Inserts a record by the client's image.
 pub fn insert(file: &mut [u8], table: &mut [u8], client: u64, key: u64, payload: &[u8], answer: &mut [u8]) -> u8 {
-    let Ok(answer) = <&mut Answer>::try_from(answer) else {
+    let (Ok(answer), Ok(payload)) = (<&mut Answer>::try_from(answer), <&Payload>::try_from(payload)) else {
         return reply::BLOCK_LENGTH;
     };
-    if payload.len() != PAYLOAD_LENGTH {
-        return reply::BLOCK_LENGTH;
-    }
-    let mut route = Route::default();
-    let arrival = match ride(file, table, client, key, &mut route) {
-        Err(refusal) => return write_answer(answer, refusal, &route),
+    let arrival = match ride(file, table, client, key) {
+        Err(Stop(refusal, route)) => return route.answer(answer, refusal, 0, &NO_PAYLOAD),
         Ok(arrival) => arrival,
     };
     adjust(table, client, &arrival);
-    let Arrival { header, bucket, count, holder, .. } = arrival;
-    if holder.is_some() {
-        return write_answer(answer, reply::HELD, &route);
+    let Arrival { header, route, level, region_start, count, holder, .. } = arrival;
+    if holder < count {
+        return route.answer(answer, reply::HELD, 0, &NO_PAYLOAD);
     }
     if count == header.slots {
-        return write_answer(answer, reply::FULL, &route);
+        return route.answer(answer, reply::FULL, 0, &NO_PAYLOAD);
     }
-    let level = header.state.level_of(bucket);
-    bucket::place(header.region_mut(file, bucket), level, count, key, payload);
-    write_answer(answer, reply::DONE, &route);
-    answer[FLAG] = u8::from(count + 1 > header.capacity);
-    reply::DONE
+    bucket::place(&mut file[region_start..], level, count, key, payload);
+    route.answer(answer, reply::DONE, u8::from(count + 1 > header.capacity), &NO_PAYLOAD)
 }
 
 /// Searches a key by the client's image.
@@ -122,19 +129,16 @@ pub fn search(file: &[u8], table: &mut [u8], client: u64, key: u64, answer: &mut
     let Ok(answer) = <&mut Answer>::try_from(answer) else {
         return reply::BLOCK_LENGTH;
     };
-    let mut route = Route::default();
-    let arrival = match ride(file, table, client, key, &mut route) {
-        Err(refusal) => return write_answer(answer, refusal, &route),
+    let arrival = match ride(file, table, client, key) {
+        Err(Stop(refusal, route)) => return route.answer(answer, refusal, 0, &NO_PAYLOAD),
         Ok(arrival) => arrival,
     };
     adjust(table, client, &arrival);
-    let Some(slot) = arrival.holder else {
-        return write_answer(answer, reply::ABSENT, &route);
-    };
-    write_answer(answer, reply::DONE, &route);
-    let region = arrival.header.region(file, arrival.bucket);
-    answer[PAYLOAD_START..].copy_from_slice(bucket::payload_at(region, slot));
-    reply::DONE
+    let Arrival { route, region_start, count, holder, .. } = arrival;
+    if holder == count {
+        return route.answer(answer, reply::ABSENT, 0, &NO_PAYLOAD);
+    }
+    route.answer(answer, reply::DONE, 0, bucket::payload_at(&file[region_start..], holder))
 }
 
 /// How often a key was sent on, by its answer block.

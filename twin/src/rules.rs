@@ -33,9 +33,11 @@ impl State {
     /// The bucket that this state gives a key.
     #[inline]
     pub fn address(self, key: u64) -> u32 {
-        let low = hash(self.level, key);
+        let size = 1 << self.level;
+        let low = key as u32 & (size - 1);
+        let wide = key as u32 & (2 * size - 1);
         if low < self.pointer {
-            hash(self.level + 1, key)
+            wide
         } else {
             low
         }
@@ -74,10 +76,17 @@ pub fn onward(bucket: u32, level: u32, key: u64) -> Option<u32> {
     Some(if bucket < near && near < far { near } else { far })
 }
 
-/// The bucket whose split gave birth to this one.
+/// The bucket whose split gave birth to this one, which is above 0.
+#[inline]
+pub fn origin(bucket: u32) -> u32 {
+    bucket - (1 << bucket.ilog2())
+}
+
+/// The bucket whose split gave birth to this one; none for bucket 0.
 pub fn parent(bucket: u16) -> u32 {
-    match bucket.checked_ilog2() {
-        None => u32::from(NONE),
-        Some(power) => u32::from(bucket) - (1 << power),
+    if bucket == 0 {
+        u32::from(NONE)
+    } else {
+        origin(bucket.into())
     }
 }

@@ -1,9 +1,15 @@
-//! The scan: every key of one lift, bucket by bucket, first come, first served.
+//! The scan: every key of one lift, bucket by bucket, first come, first served. It needs no memory that grows with the
+//! file: what is lent is written only when nothing can be refused any more, and then the visit list is the queue.
 
 use crate::client;
 use crate::file::Header;
-use crate::rules::State;
-use crate::{bucket, reply, NONE};
+use crate::rules::{self, State};
+use crate::{bucket, judge, reply, NONE};
+
+/// Of so many buckets the matching slots are noted as the buckets are judged; the others are read a second time.
+const NOTES: usize = 1024;
+/// Enough for a small file, which has no time to spare for clearing more.
+const FEW_NOTES: usize = 64;
 
 #[derive(Clone, Copy, Debug, PartialEq, Eq)]
 pub struct ScanAnswer {
@@ -22,47 +28,68 @@ impl From<u8> for Refusal {
     }
 }
 
-/// A message to a bucket; once handled, a bit for each of its matching slots.
-struct Message {
-    bucket: u16,
-    level: u8,
-    matching: u64,
-}
-
-impl Message {
-    fn new(bucket: u32, level: u32) -> Message {
-        Message { bucket: bucket as u16, level: level as u8, matching: 0 }
-    }
-}
-
-/// The client's own messages, to each bucket that it believes in.
-fn first_messages(image: State, room: usize) -> Vec<Message> {
-    let mut queue = Vec::with_capacity(room);
-    queue.extend((0..image.bucket_count()).map(|bucket| Message::new(bucket, image.level_of(bucket))));
-    queue
-}
-
-/// Handles every message, reading only; in the end the queue is the visits.
-fn visit_all(header: &Header, file: &[u8], image: State, lift: u32) -> Result<Vec<Message>, Refusal> {
-    let mut queue = first_messages(image, header.state.bucket_count() as usize);
-    let mut handled = 0;
-    while let Some(message) = queue.get_mut(handled) {
-        let bucket = u32::from(message.bucket);
-        let mut matching = 0;
-        let look = |slot, key: u64| matching |= u64::from((key >> 32) as u32 == lift) << slot;
-        header.judge(file, bucket, look).ok_or(Refusal(reply::UNSOUND, bucket))?;
-        message.matching = matching;
-        let message_level = u32::from(message.level);
-        for level in message_level + 1..=header.state.level_of(bucket) {
-            queue.push(Message::new(bucket + (1 << (level - 1)), level));
+/// Judges every bucket, in number order, and notes a bit for each matching slot; how many match.
+fn judge_all(header: &Header, file: &[u8], image: State, lift: u32, notes: &mut [u64]) -> Result<usize, Refusal> {
+    let mut found = 0;
+    for bucket in 0..header.state.bucket_count() {
+        let (region, level) = (header.region(file, bucket), header.state.level_of(bucket));
+        let count = bucket::count_of(region, level);
+        let Some(matching) = count.and_then(|count| judge::matching(region, count, bucket, level, lift)) else {
+            return Err(Refusal(reply::UNSOUND, first_unsound(header, file, image.bucket_count(), bucket)));
+        };
+        found += matching.count_ones() as usize;
+        if let Some(note) = notes.get_mut(bucket as usize) {
+            *note = matching;
         }
-        handled += 1;
     }
-    Ok(queue)
+    Ok(found)
 }
 
-/// Writes the matching keys of one bucket; how many they are.
-fn write_matches(region: &[u8], mut matching: u64, matches: &mut [u64]) -> usize {
+/// The unsound bucket that the scan visits first; the lowest one is known.
+fn first_unsound(header: &Header, file: &[u8], believed: u32, lowest: u32) -> u32 {
+    if lowest < believed {
+        return lowest;
+    }
+    let unsound = (lowest + 1..header.state.bucket_count()).filter(|&bucket| header.judge(file, bucket).is_none());
+    unsound.fold(lowest, |first, bucket| if earlier(bucket, first, believed) { bucket } else { first })
+}
+
+/// Whether the scan visits one bucket before the other: as their messages were sent, so as their senders were visited.
+fn earlier(mut one: u32, mut other: u32, believed: u32) -> bool {
+    while one >= believed && other >= believed && rules::origin(one) != rules::origin(other) {
+        (one, other) = (rules::origin(one), rules::origin(other));
+    }
+    one < other
+}
+
+/// The level that a bucket's message has: the image's where the client sent it, else that of the bucket's birth.
+fn told_level(image: State, bucket: u32) -> u32 {
+    if bucket < image.bucket_count() {
+        image.level_of(bucket)
+    } else {
+        32 - bucket.leading_zeros()
+    }
+}
+
+/// Writes the visits, of which there are as many as entries. Each is written before it is its turn to send.
+fn write_visits(state: State, image: State, visits: &mut [u16]) {
+    let mut sent = 0;
+    for bucket in 0..image.bucket_count() {
+        visits[sent] = bucket as u16;
+        sent += 1;
+    }
+    for handled in 0..visits.len() {
+        let bucket = u32::from(visits[handled]);
+        for level in told_level(image, bucket)..state.level_of(bucket) {
+            visits[sent] = (bucket + (1 << level)) as u16;
+            sent += 1;
+        }
+    }
+}
+
+/// Writes the keys of the slots that are noted; how many they are.
+#[inline]
+fn write_noted(region: &[u8], mut matching: u64, matches: &mut [u64]) -> usize {
     let mut written = 0;
     while matching != 0 {
         matches[written] = bucket::key_at(region, matching.trailing_zeros() as usize);
@@ -70,6 +97,46 @@ fn write_matches(region: &[u8], mut matching: u64, matches: &mut [u64]) -> usize
         matching &= matching - 1;
     }
     written
+}
+
+/// Writes the keys of a lift; how many they are. Each key of the bucket is written, and stays if it matches, so that no
+/// branch depends on it.
+#[inline]
+fn write_matching(region: &[u8], lift: u32, matches: &mut [u64]) -> usize {
+    let mut written = 0;
+    for slot in bucket::used_slots(region) {
+        let Some(place) = matches.get_mut(written) else {
+            break;
+        };
+        *place = bucket::key_of(slot);
+        written += usize::from(judge::lift_of(*place) == lift);
+    }
+    written
+}
+
+/// Judges all buckets, then fills both lists; how many keys match.
+fn fill<const NOTED: usize>(
+    header: &Header,
+    file: &[u8],
+    image: State,
+    lift: u32,
+    visits: &mut [u16],
+    matches: &mut [u64],
+) -> Result<usize, Refusal> {
+    let mut notes = [0; NOTED];
+    let found = judge_all(header, file, image, lift, &mut notes)?;
+    let matches = matches.get_mut(..found).ok_or(reply::MATCHES_SHORT)?;
+    write_visits(header.state, image, visits);
+    let mut written = 0;
+    for &mut visit in visits {
+        let region = header.region(file, visit.into());
+        let rest = &mut matches[written..];
+        written += match notes.get(usize::from(visit)) {
+            Some(&matching) => write_noted(region, matching, rest),
+            None => write_matching(region, lift, rest),
+        };
+    }
+    Ok(found)
 }
 
 fn try_scan(
@@ -82,25 +149,14 @@ fn try_scan(
 ) -> Result<ScanAnswer, Refusal> {
     let image = client::image_of(table, client)?;
     let header = Header::read(file).ok_or(reply::HEADER)?;
-    let buckets = header.state.bucket_count();
-    if image.bucket_count() > buckets {
+    let buckets = header.state.bucket_count() as usize;
+    if image.bucket_count() as usize > buckets {
         return Err(reply::AHEAD.into());
     }
-    if visits.len() < buckets as usize {
-        return Err(reply::VISITS_SHORT.into());
-    }
-    let visited = visit_all(&header, file, image, lift)?;
-    let found: u32 = visited.iter().map(|message| message.matching.count_ones()).sum();
-    if matches.len() < found as usize {
-        return Err(reply::MATCHES_SHORT.into());
-    }
-    let mut written = 0;
-    for (message, visit) in visited.iter().zip(visits) {
-        *visit = message.bucket;
-        let region = header.region(file, message.bucket.into());
-        written += write_matches(region, message.matching, &mut matches[written..]);
-    }
-    Ok(ScanAnswer { reply: reply::DONE.into(), bucket: NONE.into(), visits: visited.len() as u32, matches: found })
+    let visits = visits.get_mut(..buckets).ok_or(reply::VISITS_SHORT)?;
+    let fill = if buckets <= FEW_NOTES { fill::<FEW_NOTES> } else { fill::<NOTES> };
+    let found = fill(&header, file, image, lift, visits, matches)?;
+    Ok(ScanAnswer { reply: reply::DONE.into(), bucket: NONE.into(), visits: buckets as u32, matches: found as u32 })
 }
 
 /// Scans the file for one lift by the client's image.
@@ -108,5 +164,30 @@ pub fn scan(file: &[u8], table: &[u8], client: u64, lift: u32, visits: &mut [u16
     match try_scan(file, table, client, lift, visits, matches) {
         Ok(answer) => answer,
         Err(Refusal(reply, bucket)) => ScanAnswer { reply: reply.into(), bucket, visits: 0, matches: 0 },
+    }
+}
+
+#[cfg(test)]
+mod tests {
+    use super::*;
+
+    fn state_of(buckets: u32) -> State {
+        State { level: buckets.ilog2(), pointer: buckets - (1 << buckets.ilog2()) }
+    }
+
+    #[test]
+    fn earlier_is_as_the_visits_are_written() {
+        for buckets in (1..=40).chain([64, 75]) {
+            for believed in 1..=buckets {
+                let mut visits = vec![0; buckets as usize];
+                write_visits(state_of(buckets), state_of(believed), &mut visits);
+                for (at, &one) in visits.iter().enumerate() {
+                    for &other in &visits[at + 1..] {
+                        assert!(earlier(one.into(), other.into(), believed));
+                        assert!(!earlier(other.into(), one.into(), believed));
+                    }
+                }
+            }
+        }
     }
 }

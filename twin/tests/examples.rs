@@ -157,8 +157,8 @@ fn a_split_divides_in_order() {
 
 #[test]
 fn a_double_key_is_found_at_every_pair() {
-    for count in [2, 16, 17, 64] {
-        let mut file = new_file(64, 64, 1);
+    for (slots, count) in [(2, 2), (8, 3), (8, 8), (9, 9), (64, 2), (64, 17), (64, 64)] {
+        let mut file = new_file(slots, slots, 1);
         let mut table = *b"LC\0\0\0\0\0\0";
         for key in 0..count {
             assert_eq!(insert(&mut file, &mut table, 0, key << 40, &[0; 14], &mut [0; 24]), 0);
@@ -169,6 +169,64 @@ fn a_double_key_is_found_at_every_pair() {
             let [from, to] = [first, second].map(|slot| 16 + 8 + 24 * slot as usize + 2);
             damaged.copy_within(from..from + 8, to);
             assert_eq!(check(&damaged), CheckAnswer { reply: 7, bucket: 0 });
+            assert_eq!(search(&damaged, &mut table, 0, first << 40, &mut [0; 24]), 7);
+            assert_eq!(scan(&damaged, &table, 0, 0, &mut [0], &mut [0; 64]).reply, 7);
+        }
+    }
+}
+
+/// Keys that are equal but for their upper two bytes, or when their halves are laid over one another; and 0, which is
+/// in every unused slot.
+#[test]
+fn keys_that_look_alike_are_kept_apart() {
+    let keys = [5, 5 | 1 << 48, 5 | 2 << 48, 1 << 32, 1, 0];
+    for slots in [6, 7, 8, 9, 64] {
+        let mut file = new_file(slots, slots, 1);
+        let mut table = *b"LC\0\0\0\0\0\0";
+        let mut answer = [0; 24];
+        for (place, &key) in keys.iter().enumerate() {
+            assert_eq!(search(&file, &mut table, 0, key, &mut answer), 1);
+            assert_eq!(insert(&mut file, &mut table, 0, key, &[place as u8; 14], &mut answer), 0);
+            assert_eq!(insert(&mut file, &mut table, 0, key, &[place as u8; 14], &mut answer), 8);
+        }
+        for (place, &key) in keys.iter().enumerate() {
+            assert_eq!(search(&file, &mut table, 0, key, &mut answer), 0);
+            assert_eq!(answer[10..], [place as u8; 14]);
+        }
+        assert_eq!(search(&file, &mut table, 0, 5 | 3 << 48, &mut answer), 1);
+        assert_eq!(check(&file).reply, 0);
+        let mut matches = [9; 7];
+        assert_eq!(scan(&file, &table, 0, 0, &mut [0], &mut matches).matches, 3);
+        assert_eq!(matches, [5, 1, 0, 9, 9, 9, 9]);
+    }
+}
+
+/// A file of 4,096 buckets, of which a scan does not note all.
+#[test]
+fn a_scan_of_many_buckets() {
+    for slots in [1, 9] {
+        let mut rides = Rides { file: new_file(slots, slots, 4_096), table: *b"LC\0\0\0\0\0\0" };
+        for _ in 1..3_000 {
+            assert_eq!(split(&mut rides.file).reply, 0);
+        }
+        for key in (0..4_096).step_by(7) {
+            let lift = key % 2;
+            let reply = insert(&mut rides.file, &mut rides.table, 0, lift << 32 | key, &[0; 14], &mut [0; 24]);
+            assert!(reply == 0 || reply == 9);
+        }
+        for image in [*b"LC\0\0\0\0\0\0", *b"LC\x05\0\x11\0\0\0", *b"LC\x0B\0\xB8\x03\0\0"] {
+            let (mut visits, mut matches) = ([0; 3_000], [0; 600]);
+            let answer = scan(&rides.file, &image, 0, 1, &mut visits, &mut matches);
+            assert_eq!((answer.reply, answer.visits), (0, 3_000));
+            let held = visits.iter().flat_map(|&bucket| {
+                let part = view(&rides.file, bucket.into());
+                rides.file[part.start as usize..][..part.length as usize].chunks(24)
+            });
+            let keys = held.map(|slot| u64::from_le_bytes(slot[2..10].try_into().unwrap()));
+            let expected: Vec<u64> = keys.filter(|key| key >> 32 == 1).collect();
+            assert_eq!(matches[..answer.matches as usize], expected);
+            visits.sort();
+            assert!(visits.iter().copied().eq(0..3_000));
         }
     }
 }
