@@ -1,58 +1,53 @@
 // The answer block of insert and search: written, and its forwards counted.
 use route::Walk;
 ghost use mathlib.Core.Path.{_≡_};
-ghost use Prim.Native.Nat.{_≤_};
-ghost use lib.ListN.{length};
+ghost use Prim.Native.Nat.{_%_, _≤_};
+ghost use mathlib.Core.List.{_∷_};
+ghost use lib.ListN.{length, replicate};
+ghost use Rattle.layout.specs.Bytes.{leBytes, edit};
 ghost use Rattle.route.specs.Way.{noted};
 ghost use Rattle.route.specs.Way.Noted.{shown};
 ghost use Rattle.answer.specs.Answer.{block, noPayload, forwardsIn};
+ghost use Rattle.answer.specs.Answer.Block.{startBytes};
 
-// A route entry of the answer block.
-fn entry(count: u32, place: u32, bucket: u32) -> u32
-    ensures { λ r. ⌜ r ≡ shown count place bucket ⌝ }
+// A route entry of the answer block, as the number of its two bytes.
+fn entry(count: u32, place: u32, bucket: u32) -> u64
+    ensures { λ r. ⌜ r ≡ shown count place bucket % 65536 ⌝ }
 {
     if place < count {
-        return bucket;
+        return (bucket % 65536) as u64;
     }
-    address::NO_BUCKET
+    address::NO_BUCKET as u64
 }
 
-// Writes an answer block without a payload.
-pub fn put_block(answer: &mut [u8], reply: u8, walk: Walk, flag: u8)
-    requires { ⌜ (length (now answer) ≡ 24) × (walk .count ≤ 3) ⌝ }
-    ensures { λ _. ⌜ now (answer .exit) ≡ block reply (noted walk) flag noPayload ⌝ }
+// The first eight bytes of an answer block as one number: the reply, the count and the route's entries.
+fn start_of_block(reply: u8, walk: Walk) -> u64
+    requires { ⌜ walk .count ≤ 3 ⌝ }
+    ensures { λ r. ⌜ leBytes 8 r ≡ startBytes reply (noted walk) ⌝ }
 {
     let count = walk.count;
     let x = entry(count, 0, walk.first);
     let y = entry(count, 1, walk.second);
     let z = entry(count, 2, walk.third);
-    let source = [
-        reply,
-        count as u8,
-        (x % 256) as u8,
-        (x / 256 % 256) as u8,
-        (y % 256) as u8,
-        (y / 256 % 256) as u8,
-        (z % 256) as u8,
-        (z / 256 % 256) as u8,
-        flag,
-        0,
-        0,
-        0,
-        0,
-        0,
-        0,
-        0,
-        0,
-        0,
-        0,
-        0,
-        0,
-        0,
-        0,
-        0,
-    ];
-    layout::put(answer, 0, &source);
+    reply as u64 + count as u64 * 256 + x * 65536 + y * 4294967296 + z * 281474976710656
+}
+
+// Writes the flag of an answer block and the zeros behind it.
+fn put_flag(answer: &mut [u8], flag: u8)
+    requires { ⌜ length (now answer) ≡ 24 ⌝ }
+    ensures { λ _. ⌜ now (answer .exit) ≡ edit 8 (flag ∷ replicate 15 0) (now (answer .entry)) ⌝ }
+{
+    layout::put8(answer, 8, flag as u64);
+    layout::put8(answer, 16, 0);
+}
+
+// Writes an answer block without a payload, as three numbers of eight bytes.
+pub fn put_block(answer: &mut [u8], reply: u8, walk: Walk, flag: u8)
+    requires { ⌜ (length (now answer) ≡ 24) × (walk .count ≤ 3) ⌝ }
+    ensures { λ _. ⌜ now (answer .exit) ≡ block reply (noted walk) flag noPayload ⌝ }
+{
+    layout::put8(answer, 0, start_of_block(reply, walk));
+    put_flag(answer, flag);
 }
 
 // How often the key of an answer block was sent on.

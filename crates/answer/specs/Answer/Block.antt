@@ -1,17 +1,17 @@
--- The answer block's bytes, as they are written: 24 of them at once, and then a payload over the last 14.
-use Prim.Native.Nat.{ℕ, _-_, _/_, _%_, _≤_}
-use mathlib.Core.Path.{_≡_, refl, sym, ap, _∙_}
+-- The answer block's bytes, as they are written: three numbers of eight, and then a payload over the last 14.
+use Prim.Native.Nat.{ℕ, _+_, _-_, _*_, _/_, _%_, _≤_, _<_}
+use mathlib.Core.Path.{_≡_, refl, sym, ap, ap₂, _∙_}
 use mathlib.Core.Bool.{Bool, cond}
-use mathlib.Core.List.{List, [], _∷_, _++_, append-nil}
+use mathlib.Core.List.{List, [], _∷_, _++_, append-nil, append-assoc}
 use native.Mathlib.Omega.{arith}
 use borrow.Author.Tests.{eq-eqb, ne-eqb}
 use lib.ListN.{length, getD, drop, replicate}
 use Rattle.address.specs.Limits.{noBucket}
 use Rattle.address.specs.Rules.{forwards}
 use Rattle.address.specs.Rules.Route.{forwards-is}
-use Rattle.layout.specs.Bytes.{edit, part}
-use Rattle.layout.specs.Bytes.Edit.{edit-all, edit-seam, part-edit}
-use Rattle.layout.specs.Bytes.Numbers.{leBytes-two}
+use Rattle.layout.specs.Bytes.{leBytes, edit, part}
+use Rattle.layout.specs.Bytes.Edit.{edit-next, edit-all, edit-seam, part-edit}
+use Rattle.layout.specs.Bytes.Numbers.{length-leBytes, leBytes-two, leBytes-packed, leBytes-zero, leBytes-small}
 use Rattle.route.specs.declared.Walk.{Walk}
 use Rattle.route.specs.Way.{noted}
 use Rattle.route.specs.Way.Noted.{shown, noted-length, noted-first, noted-second, noted-third}
@@ -29,18 +29,59 @@ unfolding block entry
 block-bytes r flag way payload = rw
     (leBytes-two (getD way 0 noBucket), leBytes-two (getD way 1 noBucket), leBytes-two (getD way 2 noBucket))
 
--- a block without a payload is written at once, from what a walk has noted
-pub block-written : (answer : List ℕ) (walk : Walk) (r flag : ℕ) → length answer ≡ 24 → walk .count ≤ 3 → {x y z : ℕ}
-    → x ≡ shown (walk .count) 0 (walk .first) → y ≡ shown (walk .count) 1 (walk .second)
-    → z ≡ shown (walk .count) 2 (walk .third) → {left : List ℕ}
-    → left ≡ edit 0 (blockBytes r flag (walk .count) x y z (replicate 14 0)) answer
-    → left ≡ block r (noted walk) flag noPayload
+-- a block is 24 bytes long
+pub length-block : (r flag : ℕ) (way payload : List ℕ) → length payload ≡ 14 → length (block r way flag payload) ≡ 24
+length-block r flag way payload long = rw (block-bytes r flag way payload) (omega (arith, long))
+
+pub none-long : length noPayload ≡ 14
 unfolding noPayload
-block-written answer walk r flag long few ex ey ez el = el
-    ∙ edit-all _ answer (sym long)
-    ∙ sym (block-bytes r flag (noted walk) (replicate 14 0)
-    ∙ (λ i. blockBytes r flag (noted-length walk few i) ((noted-first walk few ∙ sym ex) i)
-    ((noted-second walk few ∙ sym ey) i) ((noted-third walk few ∙ sym ez) i) (replicate 14 0)))
+none-long = refl
+
+-- a block's first eight bytes, and the number that has them
+pub startBytes : ℕ → List ℕ → List ℕ
+startBytes r way = (r ∷ length way ∷ []) ++ entry way 0 ++ entry way 1 ++ entry way 2
+
+pub start-found : (r : ℕ) (walk : Walk) → r < 256 → walk .count ≤ 3 → {x y z : ℕ}
+    → x ≡ shown (walk .count) 0 (walk .first) % 65536 → y ≡ shown (walk .count) 1 (walk .second) % 65536
+    → z ≡ shown (walk .count) 2 (walk .third) % 65536
+    → leBytes 8 (r + walk .count * 256 + x * 65536 + y * 4294967296 + z * 281474976710656) ≡ startBytes r (noted walk)
+unfolding startBytes entry
+start-found r walk small few ex ey ez =
+    (λ i. leBytes 8 (r + walk .count * 256 + ex i * 65536 + ey i * 4294967296 + ez i * 281474976710656))
+    ∙ leBytes-packed r (walk .count) _ _ _ small (omega arith)
+    ∙ sym (λ i. (r ∷ noted-length walk few i ∷ []) ++ leBytes 2 (noted-first walk few i)
+    ++ leBytes 2 (noted-second walk few i)
+    ++ leBytes 2 (noted-third walk few i))
+
+-- the flag and the zeros behind it are two numbers
+pub flag-written : (flag : ℕ) (answer : List ℕ) → length answer ≡ 24 → flag < 256 → {one left : List ℕ}
+    → one ≡ edit 8 (leBytes 8 flag) answer → left ≡ edit 16 (leBytes 8 0) one
+    → left ≡ edit 8 (flag ∷ replicate 15 0) answer
+flag-written flag answer long small e1 e2 =
+    e2
+    ∙ (λ i. edit 16 (leBytes-zero 8 i) ((e1 ∙ ap (λ (l : List ℕ). edit 8 l answer) (leBytes-small 7 flag small)) i))
+    ∙ edit-next 8 (flag ∷ replicate 7 0) (replicate 8 0) answer (omega arith)
+
+-- a block without a payload is its start, the flag and zeros
+pub block-written : (answer way : List ℕ) (r flag start : ℕ) → length answer ≡ 24
+    → leBytes 8 start ≡ startBytes r way → {one left : List ℕ}
+    → one ≡ edit 0 (leBytes 8 start) answer → left ≡ edit 8 (flag ∷ replicate 15 0) one
+    → left ≡ block r way flag noPayload
+unfolding noPayload block startBytes
+block-written answer way r flag start long es e1 e2 =
+    e2
+    ∙ ap₂ (λ (n : ℕ) (l : List ℕ). edit n (flag ∷ replicate 15 0) l) behind
+    (e1 ∙ ap (λ (l : List ℕ). edit 0 l answer) es)
+    ∙ edit-next 0 (startBytes r way) (flag ∷ replicate 15 0) answer (omega (arith, eight))
+    ∙ ap (λ (l : List ℕ). edit 0 l answer)
+    (sym (append-assoc (startBytes r way) (flag ∷ 0 ∷ []) (replicate 14 0)))
+    ∙ edit-all (block r way flag noPayload) answer (length-block r flag way noPayload none-long ∙ sym long)
+  where
+    eight : length (startBytes r way) ≡ 8
+    eight = ap length (sym es) ∙ length-leBytes 8 start
+
+    behind : 8 ≡ 0 + length (startBytes r way)
+    behind = omega (arith, eight)
 
 -- a payload over the zeros
 pub block-payload : (r flag : ℕ) (way payload : List ℕ) → length payload ≡ 14
@@ -80,14 +121,7 @@ forwards-block r flag way payload long = rw (block-bytes r flag way payload)
     whole : List ℕ
     whole = blockBytes r flag (length way) (getD way 0 noBucket) (getD way 1 noBucket) (getD way 2 noBucket) payload
 
--- a block is 24 bytes long, and its payload stands at byte 10
-pub length-block : (r flag : ℕ) (way payload : List ℕ) → length payload ≡ 14 → length (block r way flag payload) ≡ 24
-length-block r flag way payload long = rw (block-bytes r flag way payload) (omega (arith, long))
-
-pub none-long : length noPayload ≡ 14
-unfolding noPayload
-none-long = refl
-
+-- a block's payload stands at byte 10
 pub payload-back : (r flag : ℕ) (way payload : List ℕ) → length payload ≡ 14
     → part 10 14 (block r way flag payload) ≡ payload
 payload-back r flag way payload long = ap (part 10 14) (sym (block-payload r flag way payload long))

@@ -14,7 +14,7 @@ use mir.Syntax.{w8}
 use mir.Val.{Fits}
 use lib.Bits.{bitOr, or-zero-l, or-add-and, and-le-r}
 use lib.Dec.{ltb, eqb}
-use lib.ListN.{length, getD, take, drop}
+use lib.ListN.{length, getD, take, drop, replicate}
 use lib.Seq.{drop-cons, getD-drop, getD-append-add}
 use Rattle.layout.specs.Bytes.{Bytes, leAt, leBytes, marked, allBelow, allZero, edit, part}
 use Rattle.layout.specs.Bytes.Edit.{part-at, length-part, edit-overlap}
@@ -128,6 +128,66 @@ pub eight-put : (at x : ℕ) (xs : List ℕ) {exit : List ℕ}
     ∷ x / 256 / 256 / 256 / 256 / 256 / 256 / 256 % 256 ∷ []) xs
     → exit ≡ edit at (leBytes 8 x) xs
 eight-put at x xs e = e ∙ ap (λ (ys : List ℕ). edit at ys xs) (sym (leBytes-eight x))
+
+-- the bytes of a sum: a byte and then the rest's, two bytes and then the rest's
+leBytes-byte : (n x rest : ℕ) → x < 256 → leBytes (suc n) (x + rest * 256) ≡ x ∷ leBytes n rest
+unfolding leBytes
+leBytes-byte n x rest small = ap₂ _∷_ low (ap (leBytes n) high)
+  where
+    low : (x + rest * 256) % 256 ≡ x
+    low = omega arith
+
+    high : (x + rest * 256) / 256 ≡ rest
+    high = omega arith
+
+leBytes-pair : (n x rest : ℕ)
+    → leBytes (suc (suc n)) (x % 65536 + rest * 65536) ≡ x % 256 ∷ x / 256 % 256 ∷ leBytes n rest
+leBytes-pair n x rest =
+    ap (leBytes (suc (suc n))) sum
+    ∙ leBytes-byte (suc n) (x % 256) (x / 256 % 256 + rest * 256) (omega arith)
+    ∙ ap (λ (l : List ℕ). x % 256 ∷ l) (leBytes-byte n (x / 256 % 256) rest (omega arith))
+  where
+    sum : x % 65536 + rest * 65536 ≡ x % 256 + (x / 256 % 256 + rest * 256) * 256
+    sum = omega arith
+
+-- two bytes and three pairs of bytes, packed into one number
+pub leBytes-packed : (a b x y z : ℕ) → a < 256 → b < 256
+    → leBytes 8 (a + b * 256 + x % 65536 * 65536 + y % 65536 * 4294967296 + z % 65536 * 281474976710656)
+    ≡ (a ∷ b ∷ []) ++ leBytes 2 x ++ leBytes 2 y ++ leBytes 2 z
+unfolding leBytes
+leBytes-packed a b x y z small little =
+    ap (leBytes 8) sum
+    ∙ leBytes-byte 7 a (b + first * 256) small
+    ∙ ap (λ (l : List ℕ). a ∷ l) (leBytes-byte 6 b first little)
+    ∙ ap (λ (l : List ℕ). a ∷ b ∷ l) (leBytes-pair 4 x second)
+    ∙ ap (λ (l : List ℕ). a ∷ b ∷ x % 256 ∷ x / 256 % 256 ∷ l) (leBytes-pair 2 y third)
+    ∙ ap (λ (l : List ℕ). a ∷ b ∷ x % 256 ∷ x / 256 % 256 ∷ y % 256 ∷ y / 256 % 256 ∷ l) (leBytes-pair 0 z 0)
+  where
+    third : ℕ
+    third = z % 65536 + 0 * 65536
+
+    second : ℕ
+    second = y % 65536 + third * 65536
+
+    first : ℕ
+    first = x % 65536 + second * 65536
+
+    sum : a + b * 256 + x % 65536 * 65536 + y % 65536 * 4294967296 + z % 65536 * 281474976710656
+        ≡ a + (b + first * 256) * 256
+    sum = omega arith
+
+-- one byte as a longer number
+pub leBytes-zero : (n : ℕ) → leBytes n 0 ≡ replicate n 0
+unfolding leBytes
+leBytes-zero zero = refl
+leBytes-zero (suc n) = ap (λ (l : List ℕ). 0 ∷ l) (leBytes-zero n)
+
+pub leBytes-small : (n x : ℕ) → x < 256 → leBytes (suc n) x ≡ x ∷ replicate n 0
+leBytes-small n x small = ap (leBytes (suc n)) sum ∙ leBytes-byte n x 0 small
+    ∙ ap (λ (l : List ℕ). x ∷ l) (leBytes-zero n)
+  where
+    sum : x ≡ x + 0 * 256
+    sum = omega arith
 
 -- a number behind a place, and one that stands behind a list
 pub le-drop : (n : ℕ) (xs : List ℕ) (s at : ℕ) → leAt n (drop s xs) at ≡ leAt n xs (s + at)
