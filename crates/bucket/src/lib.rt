@@ -18,16 +18,15 @@ const FINGERPRINTS: usize = 512;
 // Up to so many slots are few: their keys are compared with one another, and unused ones are read slot by slot.
 const FEW: usize = 8;
 
-// Whether a head is well formed, of the level given and with a count of at most `slots`.
+// Whether a head is well formed, of the level given and with a count of at most `slots`: four numbers of two bytes, the
+// level with the zero behind it.
 fn head_sound(region: &[u8], slots: u32, level: u32) -> bool
-    requires { ⌜ 8 ≤ length (now region) ⌝ }
+    requires { ⌜ (8 ≤ length (now region)) × (level < 256) ⌝ }
     ensures { λ r. ⌜ r ≡ headSound slots level (now (region .entry)) ⌝ }
 {
     layout::has_mark(region, 0, b"LB")
-        & (region[3] == 0)
-        & (region[6] == 0)
-        & (region[7] == 0)
-        & (layout::wide(region[2]) == level as u64)
+        & (layout::read2(region, 2) == level as u64)
+        & (layout::read2(region, 6) == 0)
         & (layout::read2(region, 4) <= slots as u64)
 }
 

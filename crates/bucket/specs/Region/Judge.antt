@@ -9,23 +9,46 @@ use native.Mathlib.Numerals.{add-one}
 use native.Mathlib.Omega.{arith}
 use borrow.Author.Tests.{eq-eqb, leb-true, not-true, not-false}
 use lib.Dec.{leb, eqb}
-use lib.ListN.{drop}
+use mir.Syntax.{w8}
+use mir.Val.{Fits}
+use lib.ListN.{getD, drop}
 use Rattle.address.specs.Compare.{below}
 use Rattle.address.specs.Rules.{hash, keeps}
 use Rattle.address.specs.Rules.Cases.{keeps-is}
 use Rattle.layout.specs.Bytes.{byteAt, leAt, marked, allBelow, allZero, part}
+use Rattle.layout.specs.Bytes.Numbers.{le-two, two-same}
 use Rattle.layout.specs.Bytes.Tests.{all-none, all-more, and-left, and-right, and-both, and-none}
 use Rattle.bucket.specs.Region.{Ride, bucketMark, slotAt, countOf, levelOf, headFormed, slotUsed, keyAt, rideAt}
 use Rattle.bucket.specs.Region.{ridesFrom, ridesOf, keysOf, every, distinct, headSound, soundWith}
 use Rattle.bucket.specs.Region.Rides.{keys-append, distinct-append}
 use Rattle.bucket.specs.Region.Every.{every-append}
 
-pub head-judged : (S j : ℕ) (region : List ℕ) {mark : Bool} {l n : ℕ} → mark ≡ marked region 0 bucketMark
-    → l ≡ byteAt region 2 → n ≡ leAt 2 region 4
-    → (mark && eqb (byteAt region 3) 0 && eqb (byteAt region 6) 0 && eqb (byteAt region 7) 0 && eqb l j && leb n S)
-    ≡ headSound S j region
+pub head-judged : (S j : ℕ) (region : List ℕ) → j < 256 → ((k : ℕ) → Fits w8 (getD region k 0)) → {mark : Bool}
+    {l z n : ℕ} → mark ≡ marked region 0 bucketMark → l ≡ leAt 2 region 2 → z ≡ leAt 2 region 6 → n ≡ leAt 2 region 4
+    → (mark && eqb l j && eqb z 0 && leb n S) ≡ headSound S j region
 unfolding headSound headFormed
-head-judged S j region em el en = rw (em, el, en)
+head-judged S j region small fits em el ez en = rw (em, pair 2 j el small, pair 6 0 ez (omega arith), en)
+    (go (marked region 0 bucketMark) (eqb (byteAt region 2) j) (eqb (byteAt region 3) 0) (eqb (byteAt region 6) 0)
+    (eqb (byteAt region 7) 0) (leb (countOf region) S))
+  where
+    pair : (at low : ℕ) {x : ℕ} → x ≡ leAt 2 region at → low < 256
+        → eqb x low ≡ (eqb (byteAt region at) low && eqb (byteAt region (at + 1)) 0)
+    pair at low {x} e l = ap₂ eqb (e ∙ sym (le-two region at)) number
+        ∙ two-same (byteAt region at) (byteAt region (at + 1)) low 0 (fits at .fits) l
+      where
+        number : low ≡ low + 0 * 256
+        number = omega arith
+
+    go : (m a b c d e : Bool) → (m && (a && b) && (c && d) && e) ≡ (m && b && c && d && a && e)
+    go true true true true true e = refl
+    go true true true true false e = refl
+    go true true true false d e = refl
+    go true true false c d e = refl
+    go true false true true true e = refl
+    go true false true true false e = refl
+    go true false true false d e = refl
+    go true false false c d e = refl
+    go false a b c d e = refl
 
 pub key-is : (region : List ℕ) (k : ℕ) → keyAt region k ≡ leAt 8 region (8 + 24 * k + 2)
 unfolding keyAt
