@@ -17,7 +17,7 @@ use Rattle.address.specs.Room.{ImageRoom}
 use Rattle.address.specs.Rules.{Formed, span, buckets}
 use Rattle.address.specs.Rules.Hash.{span-is, span-mono}
 use Rattle.address.specs.Rules.Cases.{buckets-is}
-use Rattle.layout.specs.Bytes.{byteAt, leAt, marked, allZero}
+use Rattle.layout.specs.Bytes.{byteAt, leAt, marked}
 use Rattle.layout.specs.Bytes.Numbers.{zeros-behind}
 use Rattle.layout.specs.Bytes.Tests.{and-left, and-right, and-none}
 use Rattle.file.specs.declared.Header.{Header}
