@@ -101,8 +101,8 @@ enum lhstar_reply {
 
 /*
  * No call takes more bytes of stack, its arguments and its return address included. Measured by
- * tests/stack.c: create 64, join 16, insert 960, search 944, forwards 16, split 880, scan 15520,
- * check 896, view 800, parent 16. The binding of memset by a dynamic linker, once in a program, is
+ * tests/stack.c: create 64, join 16, insert 928, search 896, forwards 16, split 848, scan 15392,
+ * check 848, view 752, parent 16. The binding of memset by a dynamic linker, once in a program, is
  * not counted.
  */
 #define LHSTAR_STACK_BYTES 16384

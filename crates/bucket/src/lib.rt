@@ -19,14 +19,13 @@ const FINGERPRINTS: usize = 512;
 const FEW: usize = 8;
 
 // Whether a head is well formed, of the level given and with a count of at most `slots`: four numbers of two bytes, the
-// level with the zero behind it.
+// level with the zero behind it. Level and last zeros are one test.
 fn head_sound(region: &[u8], slots: u32, level: u32) -> bool
     requires { ⌜ (8 ≤ length (now region)) × (level < 256) ⌝ }
     ensures { λ r. ⌜ r ≡ headSound slots level (now (region .entry)) ⌝ }
 {
     layout::has_mark(region, 0, b"LB")
-        & (layout::read2(region, 2) == level as u64)
-        & (layout::read2(region, 6) == 0)
+        & ((layout::read2(region, 2) ^ level as u64 | layout::read2(region, 6)) == 0)
         & (layout::read2(region, 4) <= slots as u64)
 }
 

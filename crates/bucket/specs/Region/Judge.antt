@@ -8,6 +8,7 @@ use native.Mathlib.Nat.{add-zero, zero-add}
 use native.Mathlib.Numerals.{add-one}
 use native.Mathlib.Omega.{arith}
 use borrow.Author.Tests.{eq-eqb, leb-true, not-true, not-false}
+use lib.Bits.{bitOr, bitXor}
 use lib.Dec.{leb, eqb}
 use mir.Syntax.{w8}
 use mir.Val.{Fits}
@@ -16,7 +17,7 @@ use Rattle.address.specs.Compare.{below}
 use Rattle.address.specs.Rules.{hash, keeps}
 use Rattle.address.specs.Rules.Cases.{keeps-is}
 use Rattle.layout.specs.Bytes.{byteAt, leAt, marked, allBelow, allZero, part}
-use Rattle.layout.specs.Bytes.Numbers.{le-two, two-same}
+use Rattle.layout.specs.Bytes.Numbers.{le-two, two-same, both-none}
 use Rattle.layout.specs.Bytes.Tests.{all-none, all-more, and-left, and-right, and-both, and-none}
 use Rattle.bucket.specs.Region.{Ride, bucketMark, slotAt, countOf, levelOf, headFormed, slotUsed, keyAt, rideAt}
 use Rattle.bucket.specs.Region.{ridesFrom, ridesOf, keysOf, every, distinct, headSound, soundWith}
@@ -25,9 +26,10 @@ use Rattle.bucket.specs.Region.Every.{every-append}
 
 pub head-judged : (S j : ℕ) (region : List ℕ) → j < 256 → ((k : ℕ) → Fits w8 (getD region k 0)) → {mark : Bool}
     {l z n : ℕ} → mark ≡ marked region 0 bucketMark → l ≡ leAt 2 region 2 → z ≡ leAt 2 region 6 → n ≡ leAt 2 region 4
-    → (mark && eqb l j && eqb z 0 && leb n S) ≡ headSound S j region
+    → (mark && eqb (bitOr (bitXor l j) z) 0 && leb n S) ≡ headSound S j region
 unfolding headSound headFormed
-head-judged S j region small fits em el ez en = rw (em, pair 2 j el small, pair 6 0 ez (omega arith), en)
+head-judged S j region small fits {mark} {l} {z} em el ez en = rw
+    (em, both-none l j z ∙ ap₂ _&&_ (pair 2 j el small) (pair 6 0 ez (omega arith)), en)
     (go (marked region 0 bucketMark) (eqb (byteAt region 2) j) (eqb (byteAt region 3) 0) (eqb (byteAt region 6) 0)
     (eqb (byteAt region 7) 0) (leb (countOf region) S))
   where
@@ -39,7 +41,7 @@ head-judged S j region small fits em el ez en = rw (em, pair 2 j el small, pair 
         number : low ≡ low + 0 * 256
         number = omega arith
 
-    go : (m a b c d e : Bool) → (m && (a && b) && (c && d) && e) ≡ (m && b && c && d && a && e)
+    go : (m a b c d e : Bool) → (m && (a && b && (c && d)) && e) ≡ (m && b && c && d && a && e)
     go true true true true true e = refl
     go true true true true false e = refl
     go true true true false d e = refl

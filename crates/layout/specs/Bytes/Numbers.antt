@@ -12,7 +12,7 @@ use native.Mathlib.Omega.{arith}
 use borrow.Author.Tests.{eq-eqb, ne-eqb, lt-ltb, le-ltb}
 use mir.Syntax.{w8}
 use mir.Val.{Fits}
-use lib.Bits.{bitOr, or-zero-l, or-add-and, and-le-r}
+use lib.Bits.{bitOr, bitXor, or-zero-l, or-add-and, xor-add-and, xor-self, and-le-l, and-le-r}
 use lib.Dec.{ltb, eqb}
 use lib.ListN.{length, getD, take, drop, replicate}
 use lib.Seq.{drop-cons, getD-drop, getD-append-add}
@@ -242,6 +242,16 @@ or-none : (a b : ℕ) → eqb (bitOr a b) 0 ≡ (eqb a 0 && eqb b 0)
 or-none a b = by-cases (ℕ-discrete a 0)
     (λ e. rw (eq-eqb a 0 e) (ap (λ (x : ℕ). eqb (bitOr x b) 0) e ∙ ap (λ (x : ℕ). eqb x 0) (or-zero-l b)))
     (λ e. rw (ne-eqb a 0 e) (ne-eqb (bitOr a b) 0 (λ z. e (omega (arith, or-add-and a b, and-le-r a b)))))
+
+xor-none : (a b : ℕ) → eqb (bitXor a b) 0 ≡ eqb a b
+xor-none a b = by-cases (ℕ-discrete a b)
+    (λ e. eq-eqb (bitXor a b) 0 (ap (bitXor a) (sym e) ∙ xor-self a) ∙ sym (eq-eqb a b e))
+    (λ e. ne-eqb (bitXor a b) 0 (λ z. e (omega (arith, z, xor-add-and a b, and-le-l a b, and-le-r a b)))
+    ∙ sym (ne-eqb a b e))
+
+-- two numbers are equal and a third is zero, as one test
+pub both-none : (a b c : ℕ) → eqb (bitOr (bitXor a b) c) 0 ≡ (eqb a b && eqb c 0)
+both-none a b c = or-none (bitXor a b) c ∙ ap (λ (t : Bool). t && eqb c 0) (xor-none a b)
 
 -- the bytes before a place and the number there are zero if all these bytes are
 zero-number : (xs : List ℕ) (n at : ℕ)
