@@ -132,6 +132,12 @@ static void print_image(unsigned client)
            number_at(record + LHSTAR_CLIENT_POINTER));
 }
 
+/* A bucket that holds more than its capacity is due for a split. */
+static int split_due(const uint8_t *answer)
+{
+    return answer[LHSTAR_ANSWER_COUNT] > CAPACITY;
+}
+
 static void print_call(const struct call *call, unsigned reply, const uint8_t *answer,
                        uint32_t forwards)
 {
@@ -141,7 +147,9 @@ static void print_call(const struct call *call, unsigned reply, const uint8_t *a
     print_route(answer);
     printf(" forwards %lu image ", (unsigned long)forwards);
     print_image(call->client);
-    puts(answer[LHSTAR_ANSWER_SPLIT_DUE] ? " split due" : "");
+    if (answer[LHSTAR_ANSWER_COUNT])
+        printf(" count %u", answer[LHSTAR_ANSWER_COUNT]);
+    puts(split_due(answer) ? " split due" : "");
 }
 
 /* Insert and search. Each answer block starts as zeros, and reply 14 leaves it so. */
@@ -169,7 +177,7 @@ static int insert_lent(struct lent lent, unsigned client, struct ride ride, unsi
     reply = lhstar_insert(file, lent.file, table, lent.table, client, key_of(ride),
                           payload, lent.payload, answer, lent.answer);
     settle(&call, reply, answer, lent.answer);
-    return answer[LHSTAR_ANSWER_SPLIT_DUE];
+    return split_due(answer);
 }
 
 static int insert(unsigned client, struct ride ride, unsigned expected)

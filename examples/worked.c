@@ -114,7 +114,7 @@ static void put(size_t length, unsigned long long key)
     unsigned reply = lhstar_insert(file, length, table, sizeof table, 0, key,
                                    payload, sizeof payload, answer, sizeof answer);
 
-    printf("S records, key %llu: reply %u, flag %u\n", key, reply, answer[LHSTAR_ANSWER_SPLIT_DUE]);
+    printf("S records, key %llu: reply %u, count %u\n", key, reply, answer[LHSTAR_ANSWER_COUNT]);
 }
 
 int main(void)

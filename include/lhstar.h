@@ -21,7 +21,7 @@ extern "C" {
 #endif
 
 /* The library's version; the pkg-config file has it from here. */
-#define LHSTAR_VERSION "0.1.0"
+#define LHSTAR_VERSION "0.2.0"
 
 /* The replies. A call gives the first, in the order named at the call, whose condition holds. */
 enum lhstar_reply {
@@ -94,7 +94,7 @@ enum lhstar_reply {
 #define LHSTAR_ANSWER_REPLY 0        /* the reply, one byte */
 #define LHSTAR_ANSWER_ROUTE_LENGTH 1 /* how many buckets the route has, one byte */
 #define LHSTAR_ANSWER_ROUTE 2        /* their numbers, LHSTAR_NO_BUCKET if unused */
-#define LHSTAR_ANSWER_SPLIT_DUE 8    /* 1 if an accepted insert left more than b records, else 0 */
+#define LHSTAR_ANSWER_COUNT 8        /* the records that the bucket holds after an accepted insert, else 0 */
 #define LHSTAR_ANSWER_PAYLOAD 10     /* the payload that a search found, else zeros */
 #define LHSTAR_ANSWER_BYTES (LHSTAR_ANSWER_PAYLOAD + LHSTAR_PAYLOAD_BYTES)
 #define LHSTAR_ROUTE_MOST 3          /* the most buckets of a route */

@@ -66,7 +66,7 @@ static void judge_sizes(void)
     expect("client record", LHSTAR_CLIENT_BYTES, 8);
     expect("answer block", LHSTAR_ANSWER_BYTES, 24);
     expect("route", LHSTAR_ANSWER_ROUTE + LHSTAR_NUMBER_BYTES * LHSTAR_ROUTE_MOST,
-           LHSTAR_ANSWER_SPLIT_DUE);
+           LHSTAR_ANSWER_COUNT);
     expect("key", LHSTAR_SLOT_KEY + LHSTAR_KEY_BYTES, LHSTAR_SLOT_PAYLOAD);
     expect("region", LHSTAR_REGION_BYTES(64), 8 + 24 * 64);
     expect("file", LHSTAR_FILE_BYTES(64, 4096), 16 + 4096 * (8 + 24 * 64));
@@ -85,10 +85,10 @@ static void fill(void)
     expect("join", lhstar_join(table, sizeof table, CLIENT), LHSTAR_DONE);
     expect("insert", lhstar_insert(file, sizeof file, table, sizeof table, CLIENT, first_key,
                                    payload, sizeof payload, answer, sizeof answer), LHSTAR_DONE);
-    expect("no split due", answer[LHSTAR_ANSWER_SPLIT_DUE], 0);
+    expect("count", answer[LHSTAR_ANSWER_COUNT], 1);
     expect("insert", lhstar_insert(file, sizeof file, table, sizeof table, CLIENT, second_key,
                                    payload, sizeof payload, answer, sizeof answer), LHSTAR_DONE);
-    expect("split due", answer[LHSTAR_ANSWER_SPLIT_DUE], 1);
+    expect("count", answer[LHSTAR_ANSWER_COUNT], 2);
     expect("check", lhstar_check(file, sizeof file).reply, LHSTAR_DONE);
 }
 

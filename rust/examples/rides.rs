@@ -10,7 +10,7 @@ fn main() {
     for key in [5, 3, 9, 14, 7] {
         let answer = lhstar::insert(&mut file, &mut table, 0, key, b"a ride, uphill");
         assert_eq!(answer.reply(), Reply::Done);
-        if answer.split_due() {
+        if answer.count() > 2 {
             assert_eq!(lhstar::split(&mut file).reply, Reply::Done);
         }
     }

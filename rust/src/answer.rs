@@ -5,7 +5,7 @@ use crate::{ANSWER_BYTES, PAYLOAD_BYTES, Reply, forwards};
 const REPLY: usize = 0;
 const ROUTE_LENGTH: usize = 1;
 const ROUTE: usize = 2;
-const SPLIT_DUE: usize = 8;
+const COUNT: usize = 8;
 const PAYLOAD: usize = 10;
 
 /// What [`insert`](crate::insert) and [`search`](crate::search) answer: the block of 24 bytes that the library filled.
@@ -43,7 +43,7 @@ impl AnswerBlock {
     /// The buckets that the key came by, in order: at most [`ROUTE_MOST`](crate::ROUTE_MOST), none with replies 2 to 6,
     /// and with [`BucketUnsound`](Reply::BucketUnsound) the unsound one last.
     pub fn route(&self) -> impl DoubleEndedIterator<Item = u16> + ExactSizeIterator + Clone {
-        let numbers = self.0[ROUTE..SPLIT_DUE].chunks_exact(2).map(|pair| u16::from_le_bytes([pair[0], pair[1]]));
+        let numbers = self.0[ROUTE..COUNT].chunks_exact(2).map(|pair| u16::from_le_bytes([pair[0], pair[1]]));
         numbers.take(self.0[ROUTE_LENGTH].into())
     }
 
@@ -53,10 +53,10 @@ impl AnswerBlock {
         forwards(self)
     }
 
-    /// Whether an accepted insert left more records in its bucket than the capacity, so that a split is due.
+    /// How many records the bucket holds after an accepted insert, 1 to 64; else 0. Above the capacity a split is due.
     #[must_use]
-    pub fn split_due(&self) -> bool {
-        self.0[SPLIT_DUE] != 0
+    pub fn count(&self) -> u8 {
+        self.0[COUNT]
     }
 
     /// The payload that a search found, else zeros.

@@ -48,7 +48,7 @@ pub fn join(table: &mut [u8], client: u64) -> Reply {
 /// Replies: `TableLength`, `NoClient`, `ClientUnsound`, `HeaderUnsound`, `ClientAhead`, `BucketUnsound` (the first on
 /// the route), `KeyHeld`, `BucketFull`, else `Done`. With `Done` the record stands in its bucket's first free slot.
 /// With `Done`, `KeyHeld` and `BucketFull` the image is adjusted if the first bucket sent the key on. Else file and
-/// table stay untouched. It never splits: [`AnswerBlock::split_due`] says that a split is due.
+/// table stay untouched. It never splits: [`AnswerBlock::count`] says how full the bucket is.
 ///
 /// ```
 /// use lhstar::{CLIENT_BYTES, Reply, create, file_bytes, insert, join};
@@ -60,7 +60,7 @@ pub fn join(table: &mut [u8], client: u64) -> Reply {
 /// for ride in 1..=3 {
 ///     let answer = insert(&mut file, &mut table, 0, 7 << 32 | ride, b"a ride, uphill");
 ///     assert_eq!(answer.reply(), Reply::Done);
-///     assert_eq!(answer.split_due(), ride == 3);
+///     assert_eq!(u64::from(answer.count()), ride);
 /// }
 /// assert_eq!(insert(&mut file, &mut table, 0, 7 << 32 | 1, &[0; 14]).reply(), Reply::KeyHeld);
 /// ```

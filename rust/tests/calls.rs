@@ -73,9 +73,9 @@ fn a_key_comes_by_its_route_and_the_image_learns() {
 fn an_inserted_record_is_found_and_seen() {
     let mut rides = Rides::new(5, (2, 2));
     let answer = rides.insert(5);
-    assert_eq!((answer.reply(), answer.split_due(), answer.payload()), (Reply::Done, false, &[0; PAYLOAD_BYTES]));
+    assert_eq!((answer.reply(), answer.count(), answer.payload()), (Reply::Done, 1, &[0; PAYLOAD_BYTES]));
     let answer = rides.search(5);
-    assert_eq!((answer.reply(), answer.split_due(), answer.payload()), (Reply::Done, false, PAYLOAD));
+    assert_eq!((answer.reply(), answer.count(), answer.payload()), (Reply::Done, 0, PAYLOAD));
     assert_eq!(&answer.as_bytes()[..10], &[0, 1, 5, 0, 255, 255, 255, 255, 0, 0]);
     assert_eq!(view(&rides.file, 5), b"LR\x05\0\0\0\0\0\0\0a ride, uphill");
     assert!(view(&rides.file, 1).is_empty());
@@ -84,12 +84,13 @@ fn an_inserted_record_is_found_and_seen() {
 }
 
 #[test]
-fn a_split_is_due_above_the_capacity() {
+fn an_accepted_insert_answers_the_count() {
     let mut rides = Rides::new(0, (0, 0));
-    assert_eq!([1, 2, 3, 4].map(|key| rides.insert(key).split_due()), [false, false, true, true]);
+    assert_eq!([1, 2, 3, 4].map(|key| rides.insert(key).count()), [1, 2, 3, 4]);
     assert_eq!(rides.insert(5).reply(), Reply::BucketFull);
-    assert!(!rides.insert(5).split_due());
+    assert_eq!(rides.insert(5).count(), 0);
     assert_eq!(rides.insert(4).reply(), Reply::KeyHeld);
+    assert_eq!(rides.insert(4).count(), 0);
 }
 
 #[test]

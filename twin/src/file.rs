@@ -13,7 +13,6 @@ const HIGHEST_LEVEL: u32 = 12;
 #[derive(Clone, Copy, Debug)]
 pub struct Header {
     pub state: State,
-    pub capacity: usize,
     pub slots: usize,
     pub most: u32,
 }
@@ -52,7 +51,7 @@ impl Header {
         if pointer >> level != 0 || state.bucket_count() > most {
             return None;
         }
-        Some(Header { state, capacity: capacity as usize, slots: slots as usize, most })
+        Some(Header { state, slots: slots as usize, most })
     }
 
     /// Where a bucket's region starts in the file.

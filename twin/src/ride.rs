@@ -7,7 +7,7 @@ use crate::rules::{self, State};
 use crate::{judge, reply};
 
 const ANSWER_LENGTH: usize = 24;
-const FLAG: usize = 8;
+const COUNT: usize = 8;
 const PAYLOAD_START: usize = 10;
 const NO_PAYLOAD: Payload = [0; bucket::PAYLOAD_LENGTH];
 
@@ -39,9 +39,9 @@ impl Route {
 
     /// Fills the answer.
     #[inline]
-    fn answer(self, answer: &mut Answer, reply: u8, flag: u8, payload: &Payload) -> u8 {
-        answer[..FLAG].copy_from_slice(&(self.0 | u64::from(reply)).to_le_bytes());
-        answer[FLAG..PAYLOAD_START].copy_from_slice(&[flag, 0]);
+    fn answer(self, answer: &mut Answer, reply: u8, count: u8, payload: &Payload) -> u8 {
+        answer[..COUNT].copy_from_slice(&(self.0 | u64::from(reply)).to_le_bytes());
+        answer[COUNT..PAYLOAD_START].copy_from_slice(&[count, 0]);
         answer[PAYLOAD_START..].copy_from_slice(payload);
         reply
     }
@@ -121,7 +121,7 @@ pub fn insert(file: &mut [u8], table: &mut [u8], client: u64, key: u64, payload:
         return route.answer(answer, reply::FULL, 0, &NO_PAYLOAD);
     }
     bucket::place(&mut file[region_start..], level, count, key, payload);
-    route.answer(answer, reply::DONE, u8::from(count + 1 > header.capacity), &NO_PAYLOAD)
+    route.answer(answer, reply::DONE, (count + 1) as u8, &NO_PAYLOAD)
 }
 
 /// Searches a key by the client's image.

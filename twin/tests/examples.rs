@@ -123,7 +123,7 @@ fn a_full_bucket_refuses_but_knows_what_it_holds() {
         let reply = insert(&mut file, &mut table, 0, key, &[7; 14], &mut answer);
         (reply, answer[8])
     };
-    assert_eq!([put(10), put(20), put(30)], [(0, 0), (0, 0), (0, 1)]);
+    assert_eq!([put(10), put(20), put(30)], [(0, 1), (0, 2), (0, 3)]);
     assert_eq!(put(40), (9, 0));
     assert_eq!(put(20), (8, 0));
     assert_eq!(search(&file, &mut table, 0, 30, &mut answer), 0);

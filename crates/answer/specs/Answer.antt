@@ -9,12 +9,13 @@ use Rattle.address.specs.Limits.{noBucket}
 use Rattle.layout.specs.Bytes.{leBytes}
 
 -- The answer block: byte 0 the reply; byte 1 how many buckets the route has; bytes 2-7 their numbers in order, 65,535
--- where unused; byte 8 the flag; byte 9 zero; bytes 10-23 the payload a search found, otherwise zero.
+-- where unused; byte 8 the count held after an accepted insert, otherwise 0 (02 §1); byte 9 zero; bytes 10-23 the
+-- payload a search found, otherwise zero.
 pub entry : List ℕ → ℕ → List ℕ
 entry way k = leBytes 2 (getD way k noBucket)
 
 pub block : ℕ → List ℕ → ℕ → List ℕ → List ℕ
-block r way flag payload = (r ∷ length way ∷ []) ++ entry way 0 ++ entry way 1 ++ entry way 2 ++ (flag ∷ 0 ∷ [])
+block r way count payload = (r ∷ length way ∷ []) ++ entry way 0 ++ entry way 1 ++ entry way 2 ++ (count ∷ 0 ∷ [])
     ++ payload
 
 pub noPayload : List ℕ

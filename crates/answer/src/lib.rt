@@ -32,22 +32,22 @@ fn start_of_block(reply: u8, walk: Walk) -> u64
     reply as u64 + count as u64 * 256 + x * 65536 + y * 4294967296 + z * 281474976710656
 }
 
-// Writes the flag of an answer block and the zeros behind it.
-fn put_flag(answer: &mut [u8], flag: u8)
+// Writes the count held of an answer block and the zeros behind it.
+fn put_count(answer: &mut [u8], count: u8)
     requires { ⌜ length (now answer) ≡ 24 ⌝ }
-    ensures { λ _. ⌜ now (answer .exit) ≡ edit 8 (flag ∷ replicate 15 0) (now (answer .entry)) ⌝ }
+    ensures { λ _. ⌜ now (answer .exit) ≡ edit 8 (count ∷ replicate 15 0) (now (answer .entry)) ⌝ }
 {
-    layout::put8(answer, 8, flag as u64);
+    layout::put8(answer, 8, count as u64);
     layout::put8(answer, 16, 0);
 }
 
 // Writes an answer block without a payload, as three numbers of eight bytes.
-pub fn put_block(answer: &mut [u8], reply: u8, walk: Walk, flag: u8)
+pub fn put_block(answer: &mut [u8], reply: u8, walk: Walk, count: u8)
     requires { ⌜ (length (now answer) ≡ 24) × (walk .count ≤ 3) ⌝ }
-    ensures { λ _. ⌜ now (answer .exit) ≡ block reply (noted walk) flag noPayload ⌝ }
+    ensures { λ _. ⌜ now (answer .exit) ≡ block reply (noted walk) count noPayload ⌝ }
 {
     layout::put8(answer, 0, start_of_block(reply, walk));
-    put_flag(answer, flag);
+    put_count(answer, count);
 }
 
 // How often the key of an answer block was sent on.

@@ -7,14 +7,14 @@ pub mod Replied
 use Prim.Native.Nat.{ℕ, suc}
 use mathlib.Core.Bool.{Bool, cond, not, _&&_}
 use mathlib.Core.List.{List}
-use lib.Dec.{ltb, eqb}
+use lib.Dec.{eqb}
 use lib.ListN.{length}
 use Rattle.address.specs.Limits.{firstBuckets}
 use Rattle.address.specs.Rules.{imageAfter}
 use Rattle.layout.specs.Replies.{reply}
 use Rattle.bucket.specs.Region.{countOf, rideAt, slotOf}
 use Rattle.client.specs.Table.{imageOf, withImage}
-use Rattle.file.specs.File.{capacityOf, stateOf, regionOf, withRide}
+use Rattle.file.specs.File.{stateOf, regionOf, withRide}
 use Rattle.answer.specs.Answer.{block, noPayload}
 use Rattle.route.specs.Way.{onWay, metOn, wayOf, ownOf, held, full}
 
@@ -58,12 +58,13 @@ pub search : List ℕ → List ℕ → ℕ → ℕ → List ℕ → Outcome
 search file table client key answer = routed (eqb (length answer) 24) file table client key answer
     (searched file table client key)
 
--- The file with the ride placed in the key's own bucket; the flag is 1 if more than b records are then held.
+-- The file with the ride placed in the key's own bucket; placing a record answers the count then held, and insert
+-- passes it up (02 §1).
 pub inserted : List ℕ → ℕ → List ℕ → List ℕ
 inserted file key payload = withRide file (ownOf file key) (record { key = key; payload = payload })
 
-pub overfull : List ℕ → ℕ → ℕ
-overfull file key = cond (ltb (capacityOf file) (suc (countOf (regionOf file (ownOf file key))))) 1 0
+pub countThen : List ℕ → ℕ → ℕ
+countThen file key = suc (countOf (regionOf file (ownOf file key)))
 
 -- An insert that has reached it: 8 if the key is held, 9 if its bucket holds S records, else the ride is placed.
 pub placed : List ℕ → List ℕ → ℕ → ℕ → List ℕ → Outcome
@@ -74,7 +75,7 @@ placed file table client key payload =
     (cond (full file key) (record { answer = 9; block = block 9 way 0 noPayload; table = after; file = file })
     (record {
       answer = 0;
-      block = block 0 way (overfull file key) noPayload;
+      block = block 0 way (countThen file key) noPayload;
       table = after;
       file = inserted file key payload;
     }))

@@ -4,10 +4,9 @@ use route::End;
 use route::Opened;
 use route::Walk;
 ghost use mathlib.Core.Path.{_≡_};
-ghost use mathlib.Core.Bool.{true, cond};
+ghost use mathlib.Core.Bool.{true};
 ghost use Prim.Native.Nat.{_+_, _≤_, _<_};
 ghost use lib.ListN.{length};
-ghost use lib.Dec.{ltb};
 ghost use Rattle.bucket.specs.Region.{Ride, countOf, rideAt};
 ghost use Rattle.file.specs.File.{slotsOf, bucketsOf, regionOf, bucketSoundIn, withRide};
 ghost use Rattle.file.specs.File.Judge.{Known};
@@ -94,17 +93,7 @@ pub fn search(file: &[u8], table: &mut [u8], client: u64, key: u64, answer: &mut
     walk_search(file, table, client, key, answer)
 }
 
-// The flag of an insert: 1 if more rides are held than the capacity.
-fn over_capacity(capacity: u32, held: usize) -> u8
-    ensures { λ r. ⌜ r ≡ cond (ltb capacity held) 1 0 ⌝ }
-{
-    if (capacity as usize) < held {
-        return 1;
-    }
-    0
-}
-
-// Places a ride in the key's own bucket, and writes the block of an insert that did.
+// Places a ride in the key's own bucket, and writes the block of an insert that did, with the count then held.
 fn put_placed(
     file: &mut [u8],
     header: Header,
@@ -120,10 +109,10 @@ fn put_placed(
         × (count ≡ countOf (regionOf (now file) bucket)) × (count < header .slots) ⌝ }
     ensures { λ _. ⌜ (now (file .exit)
         ≡ withRide (now (file .entry)) bucket (record { key = key; payload = now (payload .entry) }))
-        × (now (answer .exit) ≡ block 0 (noted walk) (cond (ltb (header .capacity) (count + 1)) 1 0) noPayload) ⌝ }
+        × (now (answer .exit) ≡ block 0 (noted walk) (count + 1) noPayload) ⌝ }
 {
     let after = file::place_ride(file, header, bucket, count, key, payload);
-    answer::put_block(answer, 0, walk, over_capacity(header.capacity, after));
+    answer::put_block(answer, 0, walk, after as u8);
 }
 
 // An insert that reached the key's own bucket: held already, no slot free, or placed.

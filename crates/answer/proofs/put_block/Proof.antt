@@ -1,4 +1,4 @@
--- `answer::put_block` writes the 24 bytes of a block as three numbers of eight: its start, the flag and zero.
+-- `answer::put_block` writes the 24 bytes of a block as three numbers of eight: its start, the count and zero.
 use Rattle.answer.specs.Answer.Block.{block-written}
 use borrow.Author.Needs.{needs}
 use Rattle.answer.proofs.put_block.Statement.{statement}
@@ -10,8 +10,8 @@ start-of-block-requires c κs = search needs
 put8-requires : tie.Need-put8-requires
 put8-requires c κs = search needs
 
-put-flag-requires : tie.Need-put-flag-requires
-put-flag-requires c κs = search needs
+put-count-requires : tie.Need-put-count-requires
+put-count-requires c κs = search needs
 
 same-length : tie.Need-same-length
 same-length c = search needs
@@ -22,4 +22,4 @@ returns c = search block-written
 pub put-block-spec : {M : Type 1} → statement M
 put-block-spec =
     tie.close
-    (tie.spec start-of-block-requires put8-requires put-flag-requires same-length returns)
+    (tie.spec start-of-block-requires put8-requires put-count-requires same-length returns)

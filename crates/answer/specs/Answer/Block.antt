@@ -19,19 +19,19 @@ use Rattle.answer.specs.Answer.{entry, block, noPayload, forwardsIn}
 
 -- the bytes of a block, one by one
 abbrev pub blockBytes : ℕ → ℕ → ℕ → ℕ → ℕ → ℕ → List ℕ → List ℕ
-blockBytes r flag count x y z payload = r ∷ count ∷ x % 256 ∷ x / 256 % 256 ∷ y % 256 ∷ y / 256 % 256 ∷ z % 256
-    ∷ z / 256 % 256 ∷ flag ∷ 0 ∷ payload
+blockBytes r count met x y z payload = r ∷ met ∷ x % 256 ∷ x / 256 % 256 ∷ y % 256 ∷ y / 256 % 256 ∷ z % 256
+    ∷ z / 256 % 256 ∷ count ∷ 0 ∷ payload
 
-pub block-bytes : (r flag : ℕ) (way payload : List ℕ)
-    → block r way flag payload ≡ blockBytes r flag (length way) (getD way 0 noBucket) (getD way 1 noBucket)
+pub block-bytes : (r count : ℕ) (way payload : List ℕ)
+    → block r way count payload ≡ blockBytes r count (length way) (getD way 0 noBucket) (getD way 1 noBucket)
     (getD way 2 noBucket) payload
 unfolding block entry
-block-bytes r flag way payload = rw
+block-bytes r count way payload = rw
     (leBytes-two (getD way 0 noBucket), leBytes-two (getD way 1 noBucket), leBytes-two (getD way 2 noBucket))
 
 -- a block is 24 bytes long
-pub length-block : (r flag : ℕ) (way payload : List ℕ) → length payload ≡ 14 → length (block r way flag payload) ≡ 24
-length-block r flag way payload long = rw (block-bytes r flag way payload) (omega (arith, long))
+pub length-block : (r count : ℕ) (way payload : List ℕ) → length payload ≡ 14 → length (block r way count payload) ≡ 24
+length-block r count way payload long = rw (block-bytes r count way payload) (omega (arith, long))
 
 pub none-long : length noPayload ≡ 14
 unfolding noPayload
@@ -53,29 +53,29 @@ start-found r walk small few ex ey ez =
     ++ leBytes 2 (noted-second walk few i)
     ++ leBytes 2 (noted-third walk few i))
 
--- the flag and the zeros behind it are two numbers
-pub flag-written : (flag : ℕ) (answer : List ℕ) → length answer ≡ 24 → flag < 256 → {one left : List ℕ}
-    → one ≡ edit 8 (leBytes 8 flag) answer → left ≡ edit 16 (leBytes 8 0) one
-    → left ≡ edit 8 (flag ∷ replicate 15 0) answer
-flag-written flag answer long small e1 e2 =
+-- the count and the zeros behind it are two numbers
+pub count-written : (count : ℕ) (answer : List ℕ) → length answer ≡ 24 → count < 256 → {one left : List ℕ}
+    → one ≡ edit 8 (leBytes 8 count) answer → left ≡ edit 16 (leBytes 8 0) one
+    → left ≡ edit 8 (count ∷ replicate 15 0) answer
+count-written count answer long small e1 e2 =
     e2
-    ∙ (λ i. edit 16 (leBytes-zero 8 i) ((e1 ∙ ap (λ (l : List ℕ). edit 8 l answer) (leBytes-small 7 flag small)) i))
-    ∙ edit-next 8 (flag ∷ replicate 7 0) (replicate 8 0) answer (omega arith)
+    ∙ (λ i. edit 16 (leBytes-zero 8 i) ((e1 ∙ ap (λ (l : List ℕ). edit 8 l answer) (leBytes-small 7 count small)) i))
+    ∙ edit-next 8 (count ∷ replicate 7 0) (replicate 8 0) answer (omega arith)
 
--- a block without a payload is its start, the flag and zeros
-pub block-written : (answer way : List ℕ) (r flag start : ℕ) → length answer ≡ 24
+-- a block without a payload is its start, the count and zeros
+pub block-written : (answer way : List ℕ) (r count start : ℕ) → length answer ≡ 24
     → leBytes 8 start ≡ startBytes r way → {one left : List ℕ}
-    → one ≡ edit 0 (leBytes 8 start) answer → left ≡ edit 8 (flag ∷ replicate 15 0) one
-    → left ≡ block r way flag noPayload
+    → one ≡ edit 0 (leBytes 8 start) answer → left ≡ edit 8 (count ∷ replicate 15 0) one
+    → left ≡ block r way count noPayload
 unfolding noPayload block startBytes
-block-written answer way r flag start long es e1 e2 =
+block-written answer way r count start long es e1 e2 =
     e2
-    ∙ ap₂ (λ (n : ℕ) (l : List ℕ). edit n (flag ∷ replicate 15 0) l) behind
+    ∙ ap₂ (λ (n : ℕ) (l : List ℕ). edit n (count ∷ replicate 15 0) l) behind
     (e1 ∙ ap (λ (l : List ℕ). edit 0 l answer) es)
-    ∙ edit-next 0 (startBytes r way) (flag ∷ replicate 15 0) answer (omega (arith, eight))
+    ∙ edit-next 0 (startBytes r way) (count ∷ replicate 15 0) answer (omega (arith, eight))
     ∙ ap (λ (l : List ℕ). edit 0 l answer)
-    (sym (append-assoc (startBytes r way) (flag ∷ 0 ∷ []) (replicate 14 0)))
-    ∙ edit-all (block r way flag noPayload) answer (length-block r flag way noPayload none-long ∙ sym long)
+    (sym (append-assoc (startBytes r way) (count ∷ 0 ∷ []) (replicate 14 0)))
+    ∙ edit-all (block r way count noPayload) answer (length-block r count way noPayload none-long ∙ sym long)
   where
     eight : length (startBytes r way) ≡ 8
     eight = ap length (sym es) ∙ length-leBytes 8 start
@@ -84,18 +84,18 @@ block-written answer way r flag start long es e1 e2 =
     behind = omega (arith, eight)
 
 -- a payload over the zeros
-pub block-payload : (r flag : ℕ) (way payload : List ℕ) → length payload ≡ 14
-    → edit 10 payload (block r way flag noPayload) ≡ block r way flag payload
+pub block-payload : (r count : ℕ) (way payload : List ℕ) → length payload ≡ 14
+    → edit 10 payload (block r way count noPayload) ≡ block r way count payload
 unfolding noPayload
-block-payload r flag way payload long =
-    ap (edit 10 payload) (block-bytes r flag way (replicate 14 0))
+block-payload r count way payload long =
+    ap (edit 10 payload) (block-bytes r count way (replicate 14 0))
     ∙ edit-seam (front []) payload (replicate 14 0) 10 refl
     ∙ ap (λ (n : ℕ). front (payload ++ drop n (replicate {A = ℕ} 14 0))) long
     ∙ ap front (append-nil payload)
-    ∙ sym (block-bytes r flag way payload)
+    ∙ sym (block-bytes r count way payload)
   where
     front : List ℕ → List ℕ
-    front = blockBytes r flag (length way) (getD way 0 noBucket) (getD way 1 noBucket) (getD way 2 noBucket)
+    front = blockBytes r count (length way) (getD way 0 noBucket) (getD way 1 noBucket) (getD way 2 noBucket)
 
 -- the forwards that bytes tell: none if they are no block, or of a block without a route
 pub forwards-other : (answer : List ℕ) → (length answer ≡ 24 → ⊥) → 0 ≡ forwardsIn answer
@@ -111,20 +111,20 @@ module _ (answer : List ℕ) (long : length answer ≡ 24) {met : ℕ} (em : met
   forwards-none none = omega (arith, forwards-met)
 
 -- the forwards of a block are those of its route
-pub forwards-block : (r flag : ℕ) (way payload : List ℕ) → length payload ≡ 14
-    → forwardsIn (block r way flag payload) ≡ forwards way
+pub forwards-block : (r count : ℕ) (way payload : List ℕ) → length payload ≡ 14
+    → forwardsIn (block r way count payload) ≡ forwards way
 unfolding forwardsIn
-forwards-block r flag way payload long = rw (block-bytes r flag way payload)
+forwards-block r count way payload long = rw (block-bytes r count way payload)
     (ap (λ (fits : Bool). cond fits (length way - 1) 0) (eq-eqb (length whole) 24 (omega (arith, long)))
     ∙ sym (forwards-is way))
   where
     whole : List ℕ
-    whole = blockBytes r flag (length way) (getD way 0 noBucket) (getD way 1 noBucket) (getD way 2 noBucket) payload
+    whole = blockBytes r count (length way) (getD way 0 noBucket) (getD way 1 noBucket) (getD way 2 noBucket) payload
 
 -- a block's payload stands at byte 10
-pub payload-back : (r flag : ℕ) (way payload : List ℕ) → length payload ≡ 14
-    → part 10 14 (block r way flag payload) ≡ payload
-payload-back r flag way payload long = ap (part 10 14) (sym (block-payload r flag way payload long))
-    ∙ ap (λ (n : ℕ). part 10 n (edit 10 payload (block r way flag noPayload))) (sym long)
-    ∙ part-edit 10 payload (block r way flag noPayload)
-    (omega (arith, long, length-block r flag way noPayload none-long))
+pub payload-back : (r count : ℕ) (way payload : List ℕ) → length payload ≡ 14
+    → part 10 14 (block r way count payload) ≡ payload
+payload-back r count way payload long = ap (part 10 14) (sym (block-payload r count way payload long))
+    ∙ ap (λ (n : ℕ). part 10 n (edit 10 payload (block r way count noPayload))) (sym long)
+    ∙ part-edit 10 payload (block r way count noPayload)
+    (omega (arith, long, length-block r count way noPayload none-long))

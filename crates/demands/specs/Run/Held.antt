@@ -7,11 +7,12 @@ use mathlib.Core.Bool.{Bool, true, false}
 use mathlib.Core.List.{List, [], _∷_, _++_, List·Memᴰ}
 use mathlib.Core.Logic.{_⊎_, inl, inr, ⊎-elim, by-cases, _↔_}
 use native.Mathlib.Decide.{ℕ-discrete}
+use native.Mathlib.Numerals.{add-one}
 use native.Mathlib.Omega.{arith}
 use borrow.Author.Tests.{eqb-true, ltb-true, ltb-false, leb-false}
 use lib.Dec.{eqb}
 use lib.ListN.{length}
-use Rattle.address.specs.Limits.{firstBuckets}
+use Rattle.address.specs.Limits.{firstBuckets, mostSlots}
 use Rattle.address.specs.Rules.{address, buckets, keeps, splitting, newborn, grown}
 use Rattle.address.specs.Rules.Address.{address-exists}
 use Rattle.address.specs.Rules.Cases.{keeps-yes}
@@ -26,7 +27,7 @@ use Rattle.bucket.specs.Region.Keep.{slot-most, kept-member, member-kept}
 use Rattle.file.specs.File.{mostOf, slotsOf, stateOf, bucketsOf, regionOf, fileSound, withRide, divided}
 use Rattle.file.specs.File.Judge.{Ranges, header-ranges, buckets-of, existing}
 use Rattle.file.specs.File.Keeping.{sound-header, sound-bucket, ride-kept, ride-held, others-held, ride-state}
-use Rattle.file.specs.File.Keeping.{ride-bytes}
+use Rattle.file.specs.File.Keeping.{ride-bytes, count-held}
 use Rattle.file.specs.File.Keeping.{split-kept, split-state, split-bytes, split-old, split-new, split-other}
 use Rattle.file.specs.File.Split.{split-ways}
 use Rattle.file.specs.File.Write.{Shown, shown, bucket-shown}
@@ -35,9 +36,9 @@ use Rattle.answer.specs.Answer.Block.{payload-back}
 use Rattle.route.specs.Way.{early, ownOf, held, full}
 use Rattle.route.specs.Way.Keeping.{passed, route-sound}
 use Rattle.route.specs.Way.Own.{own-is, held-is, full-is}
-use Rattle.ride.specs.Call.{Outcome, inserted, search}
+use Rattle.ride.specs.Call.{Outcome, inserted, countThen, search}
 use Rattle.ride.specs.Call.Left.{Through, search-ways, insert-ways}
-use Rattle.ride.specs.Call.Replied.{inserted-is}
+use Rattle.ride.specs.Call.Replied.{count-is, inserted-is}
 use Rattle.demands.specs.Run.{Memory, Call, Join, Insert, Search, Split, Scan, Check, View, Parent, Typed}
 use Rattle.demands.specs.Run.{AllTyped, left, after, run, replied, answered, Holds, Accepts, Accepted, payloadIn}
 use Rattle.demands.specs.Run.{Finds, Kept}
@@ -149,6 +150,23 @@ module _ (file : List ℕ) (bytes : Bytes file) (sound : fileSound file ≡ true
     here : ridesOf (regionOf now a) ≡ ridesOf (regionOf file a) ++ (new ∷ [])
     unfolding now new
     here = ride-held file bytes sound new whole a own exists fresh some
+
+    -- the count that the answer block gives is what the bucket then holds, from 1 to 64
+    pub count-told : (countThen file key ≡ countOf (regionOf (inserted file key payload) (ownOf file key)))
+        × (1 ≤ countThen file key) × (countThen file key ≤ mostSlots)
+    unfolding a new
+    count-told = (
+      sym (count-is file key (ownOf file key) refl refl) ∙ add-one _
+          ∙ sym (count-held file bytes sound new whole a own exists fresh some)
+          ∙ ap (λ (f : List ℕ). countOf (regionOf f (ownOf file key))) is,
+      omega (arith, count-is file key (ownOf file key) refl {n = countOf (regionOf file (ownOf file key))} refl),
+      omega (
+        arith,
+        count-is file key (ownOf file key) refl {n = countOf (regionOf file (ownOf file key))} refl,
+        some,
+        seen .figured .few-slots,
+      ),
+    )
 
     elsewhere : (b : ℕ) → b < bucketsOf file → (b ≡ a → ⊥) → regionOf now b ≡ regionOf file b
     unfolding now new

@@ -29,7 +29,7 @@ use Rattle.answer.specs.Answer.Block.{none-long, forwards-block}
 use Rattle.route.specs.Way.{early, wayOf}
 use Rattle.route.specs.Way.Open.{early-none}
 use Rattle.route.specs.Way.Route.{cut-none}
-use Rattle.ride.specs.Call.{overfull, search, insert}
+use Rattle.ride.specs.Call.{countThen, search, insert}
 use Rattle.ride.specs.Call.Left.{Through, search-ways, insert-ways}
 use Rattle.demands.specs.Run.{Memory, Call, Insert, Search, Split, Typed, AllTyped, after, run, replied, answered}
 use Rattle.demands.specs.Run.{payloadIn, Accepts, Accepted, Kept, Ready, routeOf}
@@ -125,23 +125,23 @@ module _ (m : Memory) (sound : fileSound (m .file) ≡ true) where
             let (payload, fourteen, is) = search-route in
             ap forwardsIn is ∙ forwards-block _ 0 (routeOf m client key) payload fourteen
 
-      pub insert-route : (payload : List ℕ) → length payload ≡ 14 → (flag : ℕ)
+      pub insert-route : (payload : List ℕ) → length payload ≡ 14 → (count : ℕ)
           × (insert (m .file) (m .table) client key payload answer .block
-          ≡ block (insert (m .file) (m .table) client key payload answer .answer) (routeOf m client key) flag
+          ≡ block (insert (m .file) (m .table) client key payload answer .answer) (routeOf m client key) count
           noPayload)
       insert-route payload fourteen = insert-ways (m .file) (m .table) client key payload answer
-          (λ o. (flag : ℕ) × (o .block ≡ block (o .answer) (routeOf m client key) flag noPayload))
+          (λ o. (count : ℕ) × (o .block ≡ block (o .answer) (routeOf m client key) count noPayload))
           (λ o r. absurd (r .why (fit-insert payload fourteen)))
           (λ w held. (0, ap (λ (way : List ℕ). block 8 way 0 noPayload) whole))
           (λ w free full. (0, ap (λ (way : List ℕ). block 9 way 0 noPayload) whole))
           (λ w free room.
-          (overfull (m .file) key, ap (λ (way : List ℕ). block 0 way (overfull (m .file) key) noPayload) whole))
+          (countThen (m .file) key, ap (λ (way : List ℕ). block 0 way (countThen (m .file) key) noPayload) whole))
 
       pub insert-forwards : (payload : List ℕ) → length payload ≡ 14
           → forwardsIn (insert (m .file) (m .table) client key payload answer .block) ≡ forwards (routeOf m client key)
       insert-forwards payload fourteen =
-          let (flag, is) = insert-route payload fourteen in
-          ap forwardsIn is ∙ forwards-block _ flag (routeOf m client key) noPayload none-long
+          let (count, is) = insert-route payload fourteen in
+          ap forwardsIn is ∙ forwards-block _ count (routeOf m client key) noPayload none-long
 
 -- what an insert was accepted with is found in any run after it, by any client of the table
 pub stored : (m : Memory) → Ready m → (client key : ℕ) (payload answer : List ℕ)

@@ -21,7 +21,7 @@ use Rattle.layout.specs.Bytes.Tests.{and-left, and-right, and-both, all-at, all
 use Rattle.bucket.specs.Region.{Ride, Whole, slotAt, countOf, ridesOf, keysOf, distinct, slotOf, bucketSound, encode}
 use Rattle.bucket.specs.Region.{kept}
 use Rattle.bucket.specs.Region.Rides.{AllWhole, whole-append, kept-whole, kept-lengths}
-use Rattle.bucket.specs.Region.Sound.{rides-encode}
+use Rattle.bucket.specs.Region.Sound.{count-encode, rides-encode}
 use Rattle.bucket.specs.Region.Encode.{length-encode}
 use Rattle.bucket.specs.Region.Held.{encode-bytes}
 use Rattle.bucket.specs.Region.Keep.{bucket-placed, bucket-divided, bucket-alike}
@@ -136,6 +136,14 @@ module _ (file : List ℕ) (bytes : Bytes file) (sound : fileSound file ≡ true
   ride-held = ap ridesOf (with-here file seen a there region long)
       ∙ rides-encode (slotsOf file) (level firstBuckets (stateOf file) a) rides all few
       (omega (arith, seen .figured .few-slots))
+
+  -- so many records: one more than before
+  pub count-held : countOf (regionOf (withRide file a ride) a) ≡ suc (countOf (regionOf file a))
+  unfolding withRide region rides
+  count-held = ap countOf (with-here file seen a there region long)
+      ∙ count-encode (slotsOf file) (level firstBuckets (stateOf file) a) rides all few
+      (omega (arith, seen .figured .few-slots))
+      ∙ omega (arith, length-append (ridesOf (regionOf file a)) (ride ∷ []), bucket .count)
 
   pub others-held : (b : ℕ) → b < mostOf file → (b ≡ a → ⊥) → regionOf (withRide file a ride) b ≡ regionOf file b
   unfolding withRide region rides

@@ -1,4 +1,4 @@
--- `ride::put_placed` places the ride, and flags it by the count then held.
+-- `ride::put_placed` places the ride, and writes the count then held, which is at most the slots and so a byte.
 use Rattle.ride.specs.Call.Replied.{placed-block}
 use borrow.Author.Needs.{needs}
 use Rattle.ride.proofs.put_placed.Statement.{statement}
@@ -7,8 +7,8 @@ use Rattle.ride.proofs.put_placed.Tie as tie
 place-ride-requires : tie.Need-place-ride-requires
 place-ride-requires c κs = search needs
 
-over-capacity-requires : tie.Need-over-capacity-requires
-over-capacity-requires c κs = search needs
+cast-put-block : tie.Need-cast-put-block
+cast-put-block c = search needs
 
 put-block-requires : tie.Need-put-block-requires
 put-block-requires c κs = search needs
@@ -27,7 +27,7 @@ put-placed-spec =
     tie.close
     (tie.spec
     place-ride-requires
-    over-capacity-requires
+    cast-put-block
     put-block-requires
     same-length
     same-length-2

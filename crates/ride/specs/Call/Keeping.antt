@@ -44,13 +44,13 @@ module _ (file table : List ℕ) (client key : ℕ) (open-to : Passed file table
       (open-to .there) (written-low file table client key open-to) (written-formed file table client key open-to)
 
 -- the forwards of a block are at most two
-pub forwards-few : (file table : List ℕ) (client key : ℕ) → Passed file table client → (r flag : ℕ) (payload : List ℕ)
+pub forwards-few : (file table : List ℕ) (client key : ℕ) → Passed file table client → (r count : ℕ) (payload : List ℕ)
     → length payload ≡ 14
-    → forwardsIn (block r (wayOf file (imageOf table client) key) flag payload) ≤ 2
-forwards-few file table client key open-to r flag payload long =
+    → forwardsIn (block r (wayOf file (imageOf table client) key) count payload) ≤ 2
+forwards-few file table client key open-to r count payload long =
     omega (
       arith,
-      forwards-block r flag (wayOf file (imageOf table client) key) payload long,
+      forwards-block r count (wayOf file (imageOf table client) key) payload long,
       ap forwards (way-route file (imageOf table client) key),
       forwards-short firstBuckets (omega arith) (stateOf file) (formed file table client open-to) (imageOf table client)
           (believes file table client open-to) (near file table client open-to) key,

@@ -16,7 +16,7 @@ use Rattle.file.specs.File.{bucketSoundIn, regionOf}
 use Rattle.answer.specs.Answer.{block, noPayload}
 use Rattle.route.specs.Way.{early, onWay, metOn, wayOf, ownOf, held, full}
 use Rattle.route.specs.Way.Reach.{way-before, way-range, way-passes, way-passed}
-use Rattle.ride.specs.Call.{Outcome, adjustedTable, routed, searched, search, overfull, inserted, placed, insert}
+use Rattle.ride.specs.Call.{Outcome, adjustedTable, routed, searched, search, countThen, inserted, placed, insert}
 use Rattle.ride.specs.Call.Replied.{searched-held, searched-absent, placed-held, placed-full, placed-done}
 
 -- a call that reaches the key's own bucket has passed 14, 2 to 6 and 7
@@ -135,7 +135,7 @@ module _ (file table : List ℕ) (client key : ℕ) where
       }))
       → (held file key ≡ false → full file key ≡ false → P (record {
         answer = 0;
-        block = block 0 (wayOf file (imageOf table client) key) (overfull file key) noPayload;
+        block = block 0 (wayOf file (imageOf table client) key) (countThen file key) noPayload;
         table = adjustedTable file table client key;
         file = inserted file key payload;
       }))
@@ -191,7 +191,7 @@ pub insert-ways : (file table : List ℕ) (client key : ℕ) (payload answer : L
     → (Through (eqb (length answer) 24 && eqb (length payload) 14) file table client key → held file key ≡ false
     → full file key ≡ false → P (record {
       answer = 0;
-      block = block 0 (wayOf file (imageOf table client) key) (overfull file key) noPayload;
+      block = block 0 (wayOf file (imageOf table client) key) (countThen file key) noPayload;
       table = adjustedTable file table client key;
       file = inserted file key payload;
     }))

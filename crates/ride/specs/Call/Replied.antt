@@ -1,9 +1,9 @@
 -- The outcome of a key call by its cases, in the replies' order; and no second outcome fits.
-use Prim.Native.Nat.{ℕ, _+_}
+use Prim.Native.Nat.{ℕ, suc, _+_}
 use mathlib.Core.Path.{_≡_, refl, sym, ap, ap₂, _∙_}
-use mathlib.Core.Bool.{Bool, true, false, cond, not, _&&_}
+use mathlib.Core.Bool.{Bool, true, false, not, _&&_}
 use mathlib.Core.List.{List}
-use native.Mathlib.Omega.{arith}
+use native.Mathlib.Numerals.{add-one}
 use borrow.Author.Tests.{eq-eqb, ne-eqb, eqb-true, not-true, not-false}
 use lib.Dec.{leb, ltb, eqb}
 use lib.ListN.{length}
@@ -12,14 +12,15 @@ use Rattle.layout.specs.Bytes.Tests.{and-left, and-right}
 use Rattle.layout.specs.Replies.{reply}
 use Rattle.bucket.specs.Region.{countOf, rideAt, slotOf}
 use Rattle.client.specs.Table.{imageOf, withImage}
-use Rattle.file.specs.File.{capacityOf, regionOf, withRide}
+use Rattle.file.specs.File.{regionOf, withRide}
 use Rattle.file.specs.declared.Header.{Header}
 use Rattle.answer.specs.Answer.{block, noPayload}
 use Rattle.route.specs.declared.Walk.{Walk}
 use Rattle.route.specs.Way.{early, onWay, wayOf, ownOf, held, full, noted, adjustedBy}
 use Rattle.route.specs.Way.Own.{held-is, full-is}
 use Rattle.route.specs.Way.Reach.{OnWay, AtOwn, way-refused}
-use Rattle.ride.specs.Call.{Outcome, adjustedTable, routed, searched, search, placed, insert, inserted, overfull}
+use Rattle.ride.specs.Call.{Outcome, adjustedTable, routed, searched, search, placed, insert, inserted}
+use Rattle.ride.specs.Call.{countThen}
 
 -- ---- up to the key's own bucket
 
@@ -114,13 +115,11 @@ fits-payload x y h = eqb-true y 14 (and-right (eqb x 24) (eqb y 14) (not-false _
 
 -- ---- at the key's own bucket
 
--- over the capacity, and one ride more, in the own bucket
+-- the count then held, and one ride more, in the own bucket
 module _ (file : List ℕ) (key a : ℕ) (own : a ≡ ownOf file key) where
-  pub over-is : (b after n : ℕ) → b ≡ capacityOf file → after ≡ n + 1 → n ≡ countOf (regionOf file a)
-      → cond (ltb b after) 1 0 ≡ overfull file key
-  unfolding overfull
-  over-is b after n eb ea en = ap₂ (λ (x y : ℕ). cond (ltb x y) 1 0) eb
-      (ea ∙ ap (λ (x : ℕ). x + 1) (en ∙ ap (λ (x : ℕ). countOf (regionOf file x)) own) ∙ omega arith)
+  pub count-is : {n : ℕ} → n ≡ countOf (regionOf file a) → n + 1 ≡ countThen file key
+  unfolding countThen
+  count-is {n} en = add-one n ∙ ap suc (en ∙ ap (λ (x : ℕ). countOf (regionOf file x)) own)
 
   pub inserted-is : (payload next : List ℕ) → next ≡ withRide file a (record { key = key; payload = payload })
       → next ≡ inserted file key payload
@@ -174,7 +173,7 @@ module _ (file table : List ℕ) (client key : ℕ) where
     pub placed-done : held file key ≡ false → full file key ≡ false
         → record {
           answer = 0;
-          block = block 0 (wayOf file (imageOf table client) key) (overfull file key) noPayload;
+          block = block 0 (wayOf file (imageOf table client) key) (countThen file key) noPayload;
           table = adjustedTable file table client key;
           file = inserted file key payload;
         } ≡ placed file table client key payload
@@ -234,23 +233,19 @@ module _ {file table : List ℕ} {client key : ℕ} {header : Header} {image : I
 
     pub insert-done : ltb place count ≡ false → leb (header .slots) count ≡ false → {grown : List ℕ}
         → grown ≡ withRide file a (record { key = key; payload = payload })
-        → left ≡ block 0 (noted walk) (cond (ltb (header .capacity) (count + 1)) 1 0) noPayload
+        → left ≡ block 0 (noted walk) (count + 1) noPayload
         → record { answer = 0; block = left; table = after; file = grown } ≡ placed file table client key payload
     insert-done h l {grown} ex el =
         (λ i.
         record {
           answer = 0;
-          block = (el ∙ ap₂ (λ (w : List ℕ) (f : ℕ). block 0 w f noPayload) (own .way) over) i;
+          block = (el ∙ ap₂ (λ (w : List ℕ) (n : ℕ). block 0 w n noPayload) (own .way)
+              (count-is file key a (own .own) en)) i;
           table = adjusted-is i;
           file = inserted-is file key a (own .own) payload grown ex i;
         }) ∙ placed-done file table client key payload (held-at h) (full-at l)
-      where
-        over : cond (ltb (header .capacity) (count + 1)) 1 0 ≡ overfull file key
-        over = over-is file key a (own .own) (header .capacity) (count + 1) count (own .known .capacity) refl en
 
 -- the block of a ride that was placed
-pub placed-block : (walk : Walk) (b count : ℕ) {left : List ℕ} {flag n : ℕ} → n ≡ count + 1 → flag ≡ cond (ltb b n) 1 0
-    → left ≡ block 0 (noted walk) flag noPayload
-    → left ≡ block 0 (noted walk) (cond (ltb b (count + 1)) 1 0) noPayload
-placed-block walk b count en ef el = el
-    ∙ ap (λ (f : ℕ). block 0 (noted walk) f noPayload) (ef ∙ ap (λ (x : ℕ). cond (ltb b x) 1 0) en)
+pub placed-block : (walk : Walk) (count : ℕ) {left : List ℕ} {n : ℕ} → n ≡ count + 1
+    → left ≡ block 0 (noted walk) n noPayload → left ≡ block 0 (noted walk) (count + 1) noPayload
+placed-block walk count en el = el ∙ ap (λ (x : ℕ). block 0 (noted walk) x noPayload) en

@@ -28,21 +28,21 @@ module _ (way : List ℕ) (few : length way ≤ 3) where
       go (a ∷ b ∷ c ∷ []) h = refl
       go (a ∷ b ∷ c ∷ d ∷ l) h = absurd (omega arith)
 
-  module _ (r flag : ℕ) (payload : List ℕ) where
+  module _ (r count : ℕ) (payload : List ℕ) where
     abbrev bytes : List ℕ
-    bytes = blockBytes r flag (length way) (bucket 0) (bucket 1) (bucket 2) payload
+    bytes = blockBytes r count (length way) (bucket 0) (bucket 1) (bucket 2) payload
 
-    byte : (k : ℕ) → getD (block r way flag payload) k 0 ≡ getD bytes k 0
-    byte k = ap (λ (b : List ℕ). getD b k 0) (block-bytes r flag way payload)
+    byte : (k : ℕ) → getD (block r way count payload) k 0 ≡ getD bytes k 0
+    byte k = ap (λ (b : List ℕ). getD b k 0) (block-bytes r count way payload)
 
     entry : (at b : ℕ) → getD bytes at 0 ≡ b % 256 → getD bytes (at + 1) 0 ≡ b / 256 % 256 → b < 65536
-        → leAt 2 (block r way flag payload) at ≡ b
-    entry at b low high small = sym (le-two (block r way flag payload) at)
+        → leAt 2 (block r way count payload) at ≡ b
+    entry at b low high small = sym (le-two (block r way count payload) at)
         ∙ omega (arith, byte at, byte (at + 1), low, high)
 
     pub ride-line : (letter : ℕ) → ((k : ℕ) → getD way k noBucket < 65536)
-        → rideLine letter (block r way flag payload) ≡ answerLine letter r way
-    ride-line letter small = ride-route letter (block r way flag payload) r (length way) (bucket 0) (bucket 1)
+        → rideLine letter (block r way count payload) ≡ answerLine letter r way
+    ride-line letter small = ride-route letter (block r way count payload) r (length way) (bucket 0) (bucket 1)
         (bucket 2) way
         (byte 0) (byte 1) (entry 2 (bucket 0) refl refl (small 0)) (entry 4 (bucket 1) refl refl (small 1))
         (entry 6 (bucket 2) refl refl (small 2)) taken
