@@ -155,8 +155,8 @@ pub fn region_zero(file: &[u8], header: Header, number: u32) -> bool
     layout::is_zero(region(file, header, number))
 }
 
-// Judges a bucket of a file, and finds a key in it. It takes numbers alone and cuts the region out itself: a struct, or a
-// part that is handed back, would go through memory.
+// Judges a bucket of a file, and finds a key in it. It takes numbers alone and cuts the region out itself: a struct, or
+// a part that is handed back, would go through memory.
 pub fn judge_bucket(file: &[u8], slots: u32, bucket: u32, level: u32, key: u64) -> Judged
     requires { ⌜ Standing (now file) slots bucket level ⌝ }
     ensures { λ r. ⌜ (r .sound ≡ bucketSoundIn (now (file .entry)) bucket)

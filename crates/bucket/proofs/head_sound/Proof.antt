@@ -1,12 +1,8 @@
--- `bucket::head_sound` tests each byte of the head that is fixed, the level and the count.
+-- `bucket::head_sound` tests the head as four numbers of two bytes.
 use Rattle.bucket.specs.Region.Judge.{head-judged}
 use borrow.Author.Needs.{needs}
 use Rattle.bucket.proofs.head_sound.Statement.{statement}
 use Rattle.bucket.proofs.head_sound.Tie as tie
-use Rattle.bucket.proofs.head_sound.Reads as reads
-use Rattle.bucket.proofs.head_sound.Lts as lts
-use Rattle.layout.proofs.has_mark.Reads as has-mark-reads
-use Rattle.layout.proofs.read2.Reads as read2-reads
 
 has-mark-requires : tie.Need-has-mark-requires
 has-mark-requires c κs = search needs

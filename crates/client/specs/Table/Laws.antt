@@ -70,8 +70,8 @@ module _ (table : List ℕ) (client : ℕ) where
   unfolding recordFormed
   record-judged fits {mark} {word} em ew = rw (
     em,
-    ap (λ (x : ℕ). eqb x 0) third,
-    ap (λ (x : ℕ). eqb x 0) last ∙ two-same (byteAt table (8 * client + 6)) (byteAt table (8 * client + 7)) 0 0
+    ap (λ (x : ℕ). eqb x 0) (zeros .0),
+    ap (λ (x : ℕ). eqb x 0) (zeros .1) ∙ two-same (byteAt table (8 * client + 6)) (byteAt table (8 * client + 7)) 0 0
         (fits (8 * client + 6) .fits) (omega arith),
   ) (sym (and-assoc (marked table (8 * client) clientMark && eqb (byteAt table (8 * client + 3)) 0)
       (eqb (byteAt table (8 * client + 6)) 0) (eqb (byteAt table (8 * client + 7)) 0)))
@@ -79,11 +79,20 @@ module _ (table : List ℕ) (client : ℕ) where
       low : (k : ℕ) → byteAt table (8 * client + k) < 256
       low k = fits (8 * client + k) .fits
 
-      third : word / 16777216 % 256 ≡ byteAt table (8 * client + 3)
-      third = omega (arith, le-eight table (8 * client), fits (8 * client) .fits, low 1, low 2, low 3, low 4, low 5, low 6, low 7)
-
-      last : word / 281474976710656 ≡ byteAt table (8 * client + 6) + byteAt table (8 * client + 7) * 256
-      last = omega (arith, le-eight table (8 * client), fits (8 * client) .fits, low 1, low 2, low 3, low 4, low 5, low 6, low 7)
+      zeros : (word / 16777216 % 256 ≡ byteAt table (8 * client + 3))
+          × (word / 281474976710656 ≡ byteAt table (8 * client + 6) + byteAt table (8 * client + 7) * 256)
+      zeros = omega (
+        arith,
+        le-eight table (8 * client),
+        fits (8 * client) .fits,
+        low 1,
+        low 2,
+        low 3,
+        low 4,
+        low 5,
+        low 6,
+        low 7,
+      )
 
   pub image-read : (l p : ℕ) → l ≡ byteAt table (8 * client + 2) → p ≡ leAt 2 table (8 * client + 4)
       → «at» l p ≡ imageOf table client

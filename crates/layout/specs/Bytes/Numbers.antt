@@ -206,7 +206,8 @@ le-part n xs s m at h = le-same n (part s m xs) xs at (s + at)
     (λ k l. part-at s m xs (at + k) (omega arith) ∙ ap (λ (i : ℕ). getD xs i 0) (sym (add-assoc s at k)))
 
 -- and at the start of a part that is cut out for it
-pub cut-read : (n : ℕ) (xs : List ℕ) (at : ℕ) {x : ℕ} → x ≡ leAt n (take (at + n - at) (drop at xs)) 0 → x ≡ leAt n xs at
+pub cut-read : (n : ℕ) (xs : List ℕ) (at : ℕ) {x : ℕ} → x ≡ leAt n (take (at + n - at) (drop at xs)) 0
+    → x ≡ leAt n xs at
 unfolding part
 cut-read n xs at e = e ∙ ap (λ (m : ℕ). leAt n (take m (drop at xs)) 0) wide ∙ le-part n xs at n 0 (omega arith)
     ∙ ap (leAt n xs) (add-zero at)
@@ -283,8 +284,10 @@ pub zeros-behind : (n m : ℕ) (xs : List ℕ) (at : ℕ) → Bytes xs → at + 
     → ltb (leAt (n + m) xs at) (256 ^ n) ≡ allZero (part (at + n) m xs)
 unfolding allZero
 zeros-behind n m xs at bytes fits = by-cases (ℕ-discrete high 0)
-    (λ e. lt-ltb (leAt (n + m) xs at) (256 ^ n) (omega (arith, le-split n m xs at, le-lt n xs at bytes, mul-none e)) ∙ sym (all ∙ eq-eqb high 0 e))
-    (λ e. le-ltb (leAt (n + m) xs at) (256 ^ n) (omega (arith, le-split n m xs at, mul-some e)) ∙ sym (all ∙ ne-eqb high 0 e))
+    (λ e. lt-ltb (leAt (n + m) xs at) (256 ^ n) (omega (arith, le-split n m xs at, le-lt n xs at bytes, mul-none e))
+    ∙ sym (all ∙ eq-eqb high 0 e))
+    (λ e. le-ltb (leAt (n + m) xs at) (256 ^ n) (omega (arith, le-split n m xs at, mul-some e))
+    ∙ sym (all ∙ ne-eqb high 0 e))
   where
     high : ℕ
     high = leAt m xs (at + n)
