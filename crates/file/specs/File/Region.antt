@@ -66,6 +66,17 @@ pub region-fits : (file : List ℕ) → Ranges file → (a : ℕ) → a < mostOf
     → startOf (slotsOf file) a + slotAt (slotsOf file) ≤ length file
 region-fits file seen a h = omega (arith, region-within (slotsOf file) (mostOf file) a h, seen .figured .whole)
 
+-- a region by its slots' number and its place: cut out, within the file, and as long as its slots
+module _ (file : List ℕ) (ranges : Ranges file) {S : ℕ} (eS : S ≡ slotsOf file) (a at : ℕ) (ea : at ≡ startOf S a) where
+  slots-cut : take (at + (8 + 24 * S) - at) (drop at file) ≡ regionOf file a
+  slots-cut = region-cut file S a at (at + (8 + 24 * S)) eS ea refl
+
+  slots-fits : a < mostOf file → at + (8 + 24 * S) ≤ length file
+  slots-fits h = omega (arith, region-fits file ranges a h, ap (λ (n : ℕ). startOf n a) eS)
+
+  slots-long : a < mostOf file → length (take (at + (8 + 24 * S) - at) (drop at file)) ≡ slotAt S
+  slots-long h = ap length slots-cut ∙ length-region file a (region-fits file ranges a h) ∙ ap slotAt (sym eS)
+
 -- ---- a region of a file whose header is known
 
 module _ (file : List ℕ) (header : Header) (seen : Known file header) where
@@ -78,16 +89,14 @@ module _ (file : List ℕ) (header : Header) (seen : Known file header) where
 
   module _ (a at : ℕ) (ea : at ≡ startOf (header .slots) a) where
     pub known-cut : take (at + (8 + 24 * header .slots) - at) (drop at file) ≡ regionOf file a
-    known-cut = region-cut file (header .slots) a at (at + (8 + 24 * header .slots)) (seen .slots) ea refl
+    known-cut = slots-cut file (seen .ranges) (seen .slots) a at ea
 
     pub known-fits : a < mostOf file → at + (8 + 24 * header .slots) ≤ length file
-    known-fits h = omega
-        (arith, region-fits file (seen .ranges) a h, ap (λ (S : ℕ). startOf S a) (seen .slots), seen .slots)
+    known-fits = slots-fits file (seen .ranges) (seen .slots) a at ea
 
     pub known-long : a < mostOf file
         → length (take (at + (8 + 24 * header .slots) - at) (drop at file)) ≡ slotAt (header .slots)
-    known-long h = ap length known-cut ∙ length-region file a (region-fits file (seen .ranges) a h)
-        ∙ ap slotAt (sym (seen .slots))
+    known-long = slots-long file (seen .ranges) (seen .slots) a at ea
 
 -- ---- a bucket of a sound file, by the file's slots and the bucket's level
 
@@ -128,16 +137,14 @@ module _ (file : List ℕ) {S a l : ℕ} (standing : Standing file S a l) where
       }
 
   module _ {place : ℕ} (ep : place ≡ startOf S a) where
-    pub standing-fits : place + (8 + 24 * S) ≤ length file
-    standing-fits = omega
-        (arith, region-fits file ranges a born, ep, ap (λ (n : ℕ). startOf n a) (standing .slots), standing .slots)
-
     cut : take (place + (8 + 24 * S) - place) (drop place file) ≡ regionOf file a
-    cut = region-cut file S a place (place + (8 + 24 * S)) (standing .slots) ep refl
+    cut = slots-cut file ranges (standing .slots) a place ep
+
+    pub standing-fits : place + (8 + 24 * S) ≤ length file
+    standing-fits = slots-fits file ranges (standing .slots) a place ep born
 
     pub standing-long : length (take (place + (8 + 24 * S) - place) (drop place file)) ≡ slotAt S
-    standing-long = ap length cut ∙ length-region file a (region-fits file ranges a born)
-        ∙ ap slotAt (sym (standing .slots))
+    standing-long = slots-long file ranges (standing .slots) a place ep born
 
     pub standing-judged : {sound : Bool}
         → sound ≡ soundWith S l (keeps firstBuckets a l) (take (place + (8 + 24 * S) - place) (drop place file))
