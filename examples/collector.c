@@ -1,14 +1,14 @@
 /*
  * A collector of rides, as a gateway would write it: it lends the library one file buffer and one
- * client table, inserts rides, splits where a split is due and looks rides up again. It prints a
- * line for each call and ends with 0 only if every reply was the expected one.
+ * client table, inserts rides with load control, which splits where a split is due, and looks rides
+ * up again. It prints a line for each call and ends with 0 only if each reply was the expected one.
  */
 #include <stdio.h>
 #include <string.h>
 
 #include "lhstar.h"
 
-enum { CAPACITY = 2, SLOTS = 4, MOST = 16, CLIENTS = 4 };
+enum { CAPACITY = 2, SLOTS = 4, MOST = 16, CLIENTS = 4, THRESHOLD = 80 };
 
 /* Who calls. */
 enum { GATE = 0, OFFICE = 1, PATROL = 2, KIOSK = 3, STRANGER = CLIENTS };
@@ -132,10 +132,19 @@ static void print_image(unsigned client)
            number_at(record + LHSTAR_CLIENT_POINTER));
 }
 
-/* A bucket that holds more than its capacity is due for a split. */
-static int split_due(const uint8_t *answer)
+static void print_split(uint32_t old_bucket, uint32_t new_bucket)
 {
-    return answer[LHSTAR_ANSWER_COUNT] > CAPACITY;
+    printf(" old ");
+    print_bucket(old_bucket);
+    printf(" new ");
+    print_bucket(new_bucket);
+}
+
+static const char *split_outcome(uint32_t split)
+{
+    if (split == LHSTAR_SPLIT_DONE)
+        return "done";
+    return split == LHSTAR_SPLIT_NO_ROOM ? "no room" : "not due";
 }
 
 static void print_call(const struct call *call, unsigned reply, const uint8_t *answer,
@@ -149,10 +158,21 @@ static void print_call(const struct call *call, unsigned reply, const uint8_t *a
     print_image(call->client);
     if (answer[LHSTAR_ANSWER_COUNT])
         printf(" count %u", answer[LHSTAR_ANSWER_COUNT]);
-    puts(split_due(answer) ? " split due" : "");
 }
 
-/* Insert and search. Each answer block starts as zeros, and reply 14 leaves it so. */
+static void print_load(const struct lhstar_load_answer *load)
+{
+    if (load->reply == LHSTAR_DONE)
+        printf(" split %s", split_outcome(load->split));
+    if (load->old_bucket != LHSTAR_NO_BUCKET)
+        print_split(load->old_bucket, load->new_bucket);
+    puts("");
+}
+
+/*
+ * The inserts and search. Each answer block starts as zeros, and reply 14 leaves it so. What settle
+ * prints is the line's first part.
+ */
 
 static void settle(const struct call *call, unsigned reply, const uint8_t *answer,
                    size_t answer_length)
@@ -166,8 +186,8 @@ static void settle(const struct call *call, unsigned reply, const uint8_t *answe
            reply == LHSTAR_BLOCK_LENGTH ? 0 : reply);
 }
 
-/* Says whether a split is due. */
-static int insert_lent(struct lent lent, unsigned client, struct ride ride, unsigned expected)
+/* Inserts without load control: the caller has to look for overfull buckets. */
+static void insert_lent(struct lent lent, unsigned client, struct ride ride, unsigned expected)
 {
     struct call call = { "insert", client, ride, expected };
     uint8_t payload[LHSTAR_PAYLOAD_BYTES];
@@ -177,12 +197,28 @@ static int insert_lent(struct lent lent, unsigned client, struct ride ride, unsi
     reply = lhstar_insert(file, lent.file, table, lent.table, client, key_of(ride),
                           payload, lent.payload, answer, lent.answer);
     settle(&call, reply, answer, lent.answer);
-    return split_due(answer);
+    puts(answer[LHSTAR_ANSWER_COUNT] > CAPACITY ? " overfull" : "");
 }
 
-static int insert(unsigned client, struct ride ride, unsigned expected)
+static void insert(unsigned client, struct ride ride, unsigned expected)
 {
-    return insert_lent(whole, client, ride, expected);
+    insert_lent(whole, client, ride, expected);
+}
+
+/* Inserts with load control, and says what became of the split. */
+static uint32_t insert_split(unsigned client, struct ride ride, unsigned threshold,
+                             unsigned expected)
+{
+    struct call call = { "insert_split", client, ride, expected };
+    struct lhstar_load_answer load;
+    uint8_t payload[LHSTAR_PAYLOAD_BYTES];
+    uint8_t answer[LHSTAR_ANSWER_BYTES] = { 0 };
+    write_payload(payload, ride);
+    load = lhstar_insert_split(file, sizeof file, table, sizeof table, client, key_of(ride),
+                               payload, sizeof payload, threshold, answer, sizeof answer);
+    settle(&call, load.reply, answer, sizeof answer);
+    print_load(&load);
+    return load.split;
 }
 
 /* A found ride comes with the payload that it was inserted with, any other with zeros. */
@@ -202,6 +238,7 @@ static void search_lent(struct lent lent, unsigned client, struct ride ride, uns
     unsigned reply = lhstar_search(file, lent.file, table, lent.table, client, key_of(ride),
                                    answer, lent.answer);
     settle(&call, reply, answer, lent.answer);
+    puts("");
     expect_payload(answer, ride, reply);
 }
 
@@ -231,10 +268,8 @@ static void join(unsigned client, unsigned expected)
 static void split(size_t file_length, unsigned expected)
 {
     struct lhstar_split_answer answer = lhstar_split(file, file_length);
-    printf("split: reply %lu old ", (unsigned long)answer.reply);
-    print_bucket(answer.old_bucket);
-    printf(" new ");
-    print_bucket(answer.new_bucket);
+    printf("split: reply %lu", (unsigned long)answer.reply);
+    print_split(answer.old_bucket, answer.new_bucket);
     puts("");
     expect("split", answer.reply, expected);
 }
@@ -290,8 +325,11 @@ static const struct ride ride_2 = { 7, 2 };
 static const struct ride ride_5 = { 12, 5 };
 static const struct ride ride_6 = { 31, 6 };
 static const struct ride ride_7 = { 31, 7 };
+static const struct ride ride_11 = { 12, 11 };
 static const struct ride ride_14 = { 7, 14 };
 static const struct ride ride_18 = { 7, 18 };
+static const struct ride ride_19 = { 31, 19 };
+static const struct ride ride_34 = { 7, 34 };
 static const struct ride never_ridden = { 31, 15 };
 static const struct ride other_lift = { 7, 5 };
 
@@ -307,8 +345,7 @@ static void collect(const struct ride *rides, size_t count)
 {
     size_t k;
     for (k = 0; k < count; k++)
-        if (insert(GATE, rides[k], LHSTAR_DONE))
-            split(sizeof file, LHSTAR_DONE);
+        insert_split(GATE, rides[k], THRESHOLD, LHSTAR_DONE);
 }
 
 static void look_up(void)
@@ -328,6 +365,16 @@ static void look_over(void)
     view(6, 0);
     parent(5, 1);
     parent(0, LHSTAR_NO_BUCKET);
+}
+
+/* In state (2,2) bucket 3 of three records is overfull: 100 * 4 * 3 is not above 100 * 2 * 6. */
+static void control_load(void)
+{
+    puts("overfull, but not due at threshold 100");
+    expect("its split", insert_split(GATE, ride_11, 100, LHSTAR_DONE), LHSTAR_SPLIT_NOT_DUE);
+    puts("thresholds 0 and 101");
+    insert_split(GATE, ride_14, 0, LHSTAR_THRESHOLD);
+    insert_split(GATE, ride_14, LHSTAR_THRESHOLD_MOST + 1, LHSTAR_THRESHOLD);
 }
 
 static void refuse_lengths(void)
@@ -376,7 +423,10 @@ static void refuse_rides(void)
     insert(KIOSK, ride_2, LHSTAR_KEY_HELD);
 }
 
-/* An unsound bucket ends the route, and the image stays as it was. */
+/*
+ * An unsound bucket ends the route, and the image stays as it was. Bucket 2 is the one to split: an
+ * insert elsewhere that needs the split is refused too, with its route whole and nothing placed.
+ */
 static void refuse_bucket(void)
 {
     uint8_t *region = file + LHSTAR_HEADER_BYTES + 2 * LHSTAR_REGION_BYTES(SLOTS);
@@ -386,6 +436,7 @@ static void refuse_bucket(void)
     join(KIOSK, LHSTAR_DONE);
     *mark = 0;
     search(KIOSK, ride_6, LHSTAR_BUCKET_UNSOUND);
+    insert_split(KIOSK, ride_19, THRESHOLD, LHSTAR_BUCKET_UNSOUND);
     split(sizeof file, LHSTAR_BUCKET_UNSOUND);
     check(sizeof file, LHSTAR_BUCKET_UNSOUND);
     view(2, 0);
@@ -400,6 +451,8 @@ static void fill_file(void)
     for (buckets = 6; buckets < MOST; buckets++)
         split(sizeof file, LHSTAR_DONE);
     split(sizeof file, LHSTAR_FILE_FULL);
+    insert_split(GATE, ride_18, THRESHOLD, LHSTAR_DONE);
+    expect("its split", insert_split(GATE, ride_34, THRESHOLD, LHSTAR_DONE), LHSTAR_SPLIT_NO_ROOM);
     check(sizeof file, LHSTAR_DONE);
     search(PATROL, ride_7, LHSTAR_DONE);
     search(PATROL, never_ridden, LHSTAR_ABSENT);
@@ -432,6 +485,7 @@ int main(void)
     collect(evening, sizeof evening / sizeof *evening);
     look_up();
     look_over();
+    control_load();
     refuse_lengths();
     refuse_clients();
     refuse_rides();

@@ -21,7 +21,7 @@ extern "C" {
 #endif
 
 /* The library's version; the pkg-config file has it from here. */
-#define LHSTAR_VERSION "0.2.0"
+#define LHSTAR_VERSION "0.3.0"
 
 /* The replies. A call gives the first, in the order named at the call, whose condition holds. */
 enum lhstar_reply {
@@ -39,11 +39,15 @@ enum lhstar_reply {
     LHSTAR_VISITS_SHORT = 11,   /* scan: visit list shorter than the bucket count */
     LHSTAR_MATCHES_SHORT = 12,  /* scan: match list shorter than the matches */
     LHSTAR_FIGURES = 13,        /* create: figures out of range, or not the file's length */
-    LHSTAR_BLOCK_LENGTH = 14    /* answer block not 24 bytes, or insert's payload not 14 */
+    LHSTAR_BLOCK_LENGTH = 14,   /* answer block not 24 bytes, or insert's payload not 14 */
+    LHSTAR_THRESHOLD = 15       /* insert_split: the threshold is not 1 to 100 */
 };
 
 /* Stands where there is no bucket. */
 #define LHSTAR_NO_BUCKET 65535u
+
+/* The threshold of a load control, in percent: from 1 to this. */
+#define LHSTAR_THRESHOLD_MOST 100
 
 /*
  * The layouts: by which byte each part starts, and how many bytes there are. A mark is two bytes;
@@ -56,7 +60,7 @@ enum lhstar_reply {
 /* The file's header. */
 #define LHSTAR_HEADER_MARK 0     /* 4C 46 */
 #define LHSTAR_HEADER_LEVEL 2    /* i, one byte */
-#define LHSTAR_HEADER_CAPACITY 3 /* b, one byte: a bucket of more records is due for a split */
+#define LHSTAR_HEADER_CAPACITY 3 /* b, one byte: a bucket of more records is overfull */
 #define LHSTAR_HEADER_POINTER 4  /* n, a number */
 #define LHSTAR_HEADER_MOST 6     /* the most buckets, a number */
 #define LHSTAR_HEADER_SLOTS 8    /* the slots of each bucket, one byte */
@@ -88,22 +92,23 @@ enum lhstar_reply {
 #define LHSTAR_FILE_BYTES(slots, most) (LHSTAR_HEADER_BYTES + (most) * LHSTAR_REGION_BYTES(slots))
 
 /*
- * The answer block of insert and search. With replies 2 to 6 there is no route; with 7 it ends at
- * the unsound bucket. Reply 14 leaves the block as it was.
+ * The answer block of insert, search and insert_split. With replies 2 to 6 and 15 there is no
+ * route; with 7 it ends at the unsound bucket, but is whole where insert_split names that bucket in
+ * its own answer. Reply 14 leaves the block as it was.
  */
 #define LHSTAR_ANSWER_REPLY 0        /* the reply, one byte */
 #define LHSTAR_ANSWER_ROUTE_LENGTH 1 /* how many buckets the route has, one byte */
 #define LHSTAR_ANSWER_ROUTE 2        /* their numbers, LHSTAR_NO_BUCKET if unused */
-#define LHSTAR_ANSWER_COUNT 8        /* the records that the bucket holds after an accepted insert, else 0 */
+#define LHSTAR_ANSWER_COUNT 8        /* the records that an accepted insert leaves, else 0 */
 #define LHSTAR_ANSWER_PAYLOAD 10     /* the payload that a search found, else zeros */
 #define LHSTAR_ANSWER_BYTES (LHSTAR_ANSWER_PAYLOAD + LHSTAR_PAYLOAD_BYTES)
 #define LHSTAR_ROUTE_MOST 3          /* the most buckets of a route */
 
 /*
  * No call takes more bytes of stack, its arguments and its return address included. Measured by
- * tests/stack.c: create 64, join 16, insert 912, search 896, forwards 16, split 848, scan 15392,
- * check 848, view 752, parent 16. The binding of memset by a dynamic linker, once in a program, is
- * not counted.
+ * tests/stack.c: create 64, join 16, insert 912, search 896, forwards 16, split 816, insert_split
+ * 976, scan 15392, check 848, view 752, parent 16. The binding of memset by a dynamic linker, once
+ * in a program, is not counted.
  */
 #define LHSTAR_STACK_BYTES 16384
 
@@ -128,7 +133,8 @@ uint8_t lhstar_join(uint8_t *table, size_t table_length, uint64_t client);
  * Replies: 14, 2, 3, 4, 5, 6, 7 (the first unsound bucket on the route), 8, 9, else 0. Fills the
  * answer block, save with 14. With 0 the record stands in its bucket's first free slot. With 0, 8
  * and 9 the image is adjusted if the first bucket sent the key on. Else file and table stay
- * untouched. It never splits: the block's byte 8 says that a split is due.
+ * untouched. It never splits: a coordinator without load control compares the block's byte 8, the
+ * count then held, with the capacity and calls lhstar_split; one with it calls lhstar_insert_split.
  */
 uint8_t lhstar_insert(uint8_t *file, size_t file_length,
                       uint8_t *table, size_t table_length, uint64_t client, uint64_t key,
@@ -164,6 +170,46 @@ struct lhstar_split_answer {
  * Replies: 5, 10, 7 (bucket n, then the new region), else 0. Refused, it leaves the file untouched.
  */
 struct lhstar_split_answer lhstar_split(uint8_t *file, size_t file_length);
+
+/* What became of the split of an insert_split. */
+enum lhstar_control {
+    LHSTAR_SPLIT_NOT_DUE = 0, /* none was due, or the insert was refused */
+    LHSTAR_SPLIT_DONE = 1,    /* bucket n was split */
+    LHSTAR_SPLIT_NO_ROOM = 2  /* one was due, but the file has its most buckets */
+};
+
+/*
+ * The reply; what became of the split; where one was done, the bucket that was split and its new
+ * one. With 7 and the route whole in the block, the unsound bucket or region first. Else none.
+ */
+struct lhstar_load_answer {
+    uint32_t reply;
+    uint32_t split;
+    uint32_t old_bucket;
+    uint32_t new_bucket;
+};
+
+/*
+ * Inserts as lhstar_insert does, decides by the load whether a split is due, and does it: a
+ * coordinator with load control needs neither the block's byte 8 nor a second call.
+ * Where the key's bucket s then holds x records, more than the capacity b, a split is due if
+ *     100 * 2^i * x * f > threshold * b * (2^i + n),    f = 2 if s < n or s >= 2^i, else 1
+ * in the state (i, n) before it. Bucket n is split, which may be s or another. In a file of its
+ * most buckets the record is only inserted. A bucket can be full before it makes a split due if it
+ * has fewer than 2 * threshold * b / 100 slots.
+ * Replies: 14, 15 (the threshold is not 1 to 100), 2, 3, 4, 5, 6, 7 (the first unsound bucket on
+ * the route), 8, 9, 7 (bucket n, then the new region, where the insert would be accepted and a
+ * split is due and possible), else 0. Fills the answer block as lhstar_insert does, save with 14.
+ * With 0 the record is placed, and the split done if it is due and possible; the block's count is
+ * the one before the split. With 0, 8 and 9 the image is adjusted if the first bucket sent the key
+ * on. Else file and table stay untouched: with the last 7 nothing is placed and the image stays.
+ */
+struct lhstar_load_answer lhstar_insert_split(uint8_t *file, size_t file_length,
+                                              uint8_t *table, size_t table_length,
+                                              uint64_t client, uint64_t key,
+                                              const uint8_t *payload, size_t payload_length,
+                                              uint64_t threshold,
+                                              uint8_t *answer, size_t answer_length);
 
 /*
  * With 7 the unsound bucket, else LHSTAR_NO_BUCKET; with 0 how many entries the visit list and the

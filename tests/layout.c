@@ -1,6 +1,6 @@
 /*
- * The sizes and places that the header names, compared with document 01's figures and with the
- * bytes that the calls write. It ends with 0 only if all agree.
+ * The sizes and places that the header names, compared with the documents' figures and with the
+ * bytes and answers that the calls give. It ends with 0 only if all agree.
  */
 #include <stdio.h>
 #include <string.h>
@@ -21,6 +21,10 @@ static uint64_t matches[SLOTS];
 /* They stand in bucket 769, the last one, whose level is 10. */
 static const uint64_t first_key = UINT64_C(0x0807060504030301);
 static const uint64_t second_key = UINT64_C(0x0807060514131301);
+
+/* It belongs there too, by its lower ten bits, and so does each key that is a step above. */
+static const uint64_t third_key = UINT64_C(0x0807060524231301);
+enum { KEY_STEP = 1 << (LEVEL + 1) };
 
 static int failed;
 
@@ -171,6 +175,65 @@ static void judge_scan(void)
     expect("parent", lhstar_parent(BUCKETS - 1), POINTER - 1);
 }
 
+/* Inserts by an image that is right, with load control, and compares answer and block. */
+static void judge_load(uint64_t key, uint64_t threshold, struct lhstar_load_answer expected,
+                       unsigned count)
+{
+    struct lhstar_load_answer load;
+    load = lhstar_insert_split(file, sizeof file, table, sizeof table, CLIENT, key,
+                               payload, sizeof payload, threshold, answer, sizeof answer);
+    expect("insert_split", load.reply, expected.reply);
+    expect("its split", load.split, expected.split);
+    expect("its old bucket", load.old_bucket, expected.old_bucket);
+    expect("its new bucket", load.new_bucket, expected.new_bucket);
+    expect("reply", answer[LHSTAR_ANSWER_REPLY], expected.reply);
+    expect("count", answer[LHSTAR_ANSWER_COUNT], count);
+    expect_zeros("no payload", answer + LHSTAR_ANSWER_PAYLOAD, answer + LHSTAR_ANSWER_BYTES);
+}
+
+static struct lhstar_load_answer load_answer(uint32_t reply, uint32_t split, uint32_t old_bucket,
+                                             uint32_t new_bucket)
+{
+    struct lhstar_load_answer load;
+    load.reply = reply;
+    load.split = split;
+    load.old_bucket = old_bucket;
+    load.new_bucket = new_bucket;
+    return load;
+}
+
+static void refuse_loads(void)
+{
+    uint8_t *newborn = file + LHSTAR_HEADER_BYTES + BUCKETS * LHSTAR_REGION_BYTES(SLOTS);
+    struct lhstar_load_answer refused = load_answer(LHSTAR_THRESHOLD, LHSTAR_SPLIT_NOT_DUE,
+                                                    LHSTAR_NO_BUCKET, LHSTAR_NO_BUCKET);
+    judge_load(third_key, 0, refused, 0);
+    judge_load(third_key, LHSTAR_THRESHOLD_MOST + 1, refused, 0);
+    expect("no route", answer[LHSTAR_ANSWER_ROUTE_LENGTH], 0);
+    expect("no first bucket", number_at(answer + LHSTAR_ANSWER_ROUTE), LHSTAR_NO_BUCKET);
+    *newborn = 1;
+    refused.reply = LHSTAR_BUCKET_UNSOUND;
+    refused.old_bucket = BUCKETS;
+    judge_load(third_key, LHSTAR_THRESHOLD_MOST, refused, 0);
+    expect("whole route", number_at(answer + LHSTAR_ANSWER_ROUTE), BUCKETS - 1);
+    *newborn = 0;
+}
+
+/* Each record makes the last bucket overfull: two more splits are done, then there is no room. */
+static void judge_loads(void)
+{
+    struct lhstar_load_answer no_room = load_answer(LHSTAR_DONE, LHSTAR_SPLIT_NO_ROOM,
+                                                    LHSTAR_NO_BUCKET, LHSTAR_NO_BUCKET);
+    unsigned k;
+    expect("load answer", sizeof no_room, 4 * sizeof(uint32_t));
+    for (k = 0; k < MOST - BUCKETS; k++)
+        judge_load(third_key + k * KEY_STEP, LHSTAR_THRESHOLD_MOST,
+                   load_answer(LHSTAR_DONE, LHSTAR_SPLIT_DONE, POINTER + k, BUCKETS + k), 3 + k);
+    judge_load(third_key + k * KEY_STEP, 1, no_room, 3 + k);
+    expect("pointer", number_at(file + LHSTAR_HEADER_POINTER), POINTER + k);
+    expect("check", lhstar_check(file, sizeof file).reply, LHSTAR_DONE);
+}
+
 int main(void)
 {
     judge_sizes();
@@ -180,5 +243,7 @@ int main(void)
     judge_client();
     judge_answer();
     judge_scan();
+    refuse_loads();
+    judge_loads();
     return failed;
 }

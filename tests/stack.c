@@ -30,7 +30,7 @@ static uint8_t answer[LHSTAR_ANSWER_BYTES];
 static uint16_t visits[MOST];
 static uint64_t matches[SLOTS * MOST];
 static size_t table_length, payload_length, answer_length, visits_length, matches_length;
-static uint64_t client, key, bucket;
+static uint64_t client, key, bucket, threshold;
 static uint32_t lift;
 
 /* A table of one client that knows the state. */
@@ -72,6 +72,17 @@ static void forwards(void)
 static void split(void)
 {
     given = lhstar_split(file, file_length).reply;
+}
+
+/* What became of the split, above the reply. */
+enum { SPLIT_DONE = 256 * LHSTAR_SPLIT_DONE, SPLIT_NO_ROOM = 256 * LHSTAR_SPLIT_NO_ROOM };
+
+static void insert_split(void)
+{
+    struct lhstar_load_answer load;
+    load = lhstar_insert_split(file, file_length, table, table_length, client, key,
+                               payload, payload_length, threshold, answer, answer_length);
+    given = load.reply + 256 * load.split;
 }
 
 static void scan(void)
@@ -214,6 +225,7 @@ static void lend(unsigned image_level, unsigned image_pointer)
     visits_length = buckets;
     matches_length = buckets * (slots - 1);
     client = CLIENT;
+    threshold = LHSTAR_THRESHOLD_MOST;
     lift = 0;
     bucket = buckets - 1;
     key = key_of(buckets - 1, slots - 1);
@@ -232,6 +244,7 @@ static void short_visits(void) { visits_length--; }
 static void short_matches(void) { matches_length--; }
 static void high_capacity(void) { capacity = slots + 1; }
 static void high_client(void) { client = CLIENTS; }
+static void high_threshold(void) { threshold = LHSTAR_THRESHOLD_MOST + 1; }
 static void high_bucket(void) { bucket = buckets; }
 static void first_bucket(void) { bucket = 0; }
 static void other_lift(void) { lift = 1; }
@@ -259,6 +272,41 @@ static void no_last_mark(void) { region(buckets - 1)[LHSTAR_HEAD_MARK] = 0; }
 static void no_split_mark(void) { region(pointer)[LHSTAR_HEAD_MARK] = 0; }
 static void no_new_zeros(void) { region(buckets)[LHSTAR_REGION_BYTES(slots) - 1] = 1; }
 
+/* The key's bucket, the last one, becomes overfull, and a split is due. */
+static void overfull(void) { file[LHSTAR_HEADER_CAPACITY] = (uint8_t)(slots - 1); }
+
+/* The bucket to split becomes overfull itself. By the greatest threshold no split is due. */
+static void overfull_split(void)
+{
+    overfull();
+    key = key_of(pointer, slots - 1);
+}
+
+/* By the least one it is. */
+static void due_split(void)
+{
+    overfull_split();
+    threshold = 1;
+}
+
+static void overfull_no_split_mark(void)
+{
+    overfull();
+    no_split_mark();
+}
+
+static void overfull_no_new_zeros(void)
+{
+    overfull();
+    no_new_zeros();
+}
+
+static void due_split_no_new_zeros(void)
+{
+    due_split();
+    no_new_zeros();
+}
+
 /* The last record of the last bucket gets the key of the first. */
 static void key_twice(void)
 {
@@ -268,7 +316,9 @@ static void key_twice(void)
 
 /* The runs: of any file, of one with room for a split, or of one without. */
 
-enum { CREATE, JOIN, INSERT, SEARCH, FORWARDS, SPLIT, SCAN, CHECK, VIEW, PARENT, CALLS };
+enum {
+    CREATE, JOIN, INSERT, SEARCH, FORWARDS, SPLIT, INSERT_SPLIT, SCAN, CHECK, VIEW, PARENT, CALLS
+};
 enum { ANY, ROOM, FULL };
 
 static const struct {
@@ -276,8 +326,8 @@ static const struct {
     void (*call)(void);
 } calls[CALLS] = {
     { "create", create }, { "join", join }, { "insert", insert }, { "search", search },
-    { "forwards", forwards }, { "split", split }, { "scan", scan }, { "check", check },
-    { "view", view }, { "parent", parent }
+    { "forwards", forwards }, { "split", split }, { "insert_split", insert_split },
+    { "scan", scan }, { "check", check }, { "view", view }, { "parent", parent }
 };
 
 static const struct run {
@@ -322,6 +372,26 @@ static const struct run {
     { SPLIT, FULL, nothing, LHSTAR_FILE_FULL },
     { SPLIT, ROOM, no_split_mark, LHSTAR_BUCKET_UNSOUND },
     { SPLIT, ROOM, no_new_zeros, LHSTAR_BUCKET_UNSOUND },
+    { INSERT_SPLIT, ANY, nothing, LHSTAR_DONE },
+    { INSERT_SPLIT, ROOM, overfull_split, LHSTAR_DONE },
+    { INSERT_SPLIT, ROOM, overfull, LHSTAR_DONE + SPLIT_DONE },
+    { INSERT_SPLIT, ROOM, due_split, LHSTAR_DONE + SPLIT_DONE },
+    { INSERT_SPLIT, FULL, overfull, LHSTAR_DONE + SPLIT_NO_ROOM },
+    { INSERT_SPLIT, ANY, short_block, LHSTAR_BLOCK_LENGTH },
+    { INSERT_SPLIT, ANY, short_payload, LHSTAR_BLOCK_LENGTH },
+    { INSERT_SPLIT, ANY, high_threshold, LHSTAR_THRESHOLD },
+    { INSERT_SPLIT, ANY, short_table, LHSTAR_TABLE_LENGTH },
+    { INSERT_SPLIT, ANY, high_client, LHSTAR_NO_CLIENT },
+    { INSERT_SPLIT, ANY, no_client_mark, LHSTAR_CLIENT_UNSOUND },
+    { INSERT_SPLIT, ANY, short_file, LHSTAR_HEADER_UNSOUND },
+    { INSERT_SPLIT, ANY, image_ahead, LHSTAR_CLIENT_AHEAD },
+    { INSERT_SPLIT, ANY, no_last_mark, LHSTAR_BUCKET_UNSOUND },
+    { INSERT_SPLIT, ANY, key_twice, LHSTAR_BUCKET_UNSOUND },
+    { INSERT_SPLIT, ANY, held_key, LHSTAR_KEY_HELD },
+    { INSERT_SPLIT, ANY, full_bucket, LHSTAR_BUCKET_FULL },
+    { INSERT_SPLIT, ROOM, overfull_no_split_mark, LHSTAR_BUCKET_UNSOUND },
+    { INSERT_SPLIT, ROOM, overfull_no_new_zeros, LHSTAR_BUCKET_UNSOUND },
+    { INSERT_SPLIT, ROOM, due_split_no_new_zeros, LHSTAR_BUCKET_UNSOUND },
     { SCAN, ANY, nothing, LHSTAR_DONE },
     { SCAN, ANY, other_lift, LHSTAR_DONE },
     { SCAN, ANY, short_table, LHSTAR_TABLE_LENGTH },
@@ -392,9 +462,9 @@ static void print_taken(void)
 {
     int k;
     printf("bytes of stack, %d at most\n", LHSTAR_STACK_BYTES);
-    printf("%-10s%10s%10s\n", "call", "small", "largest");
+    printf("%-12s%10s%10s\n", "call", "small", "largest");
     for (k = 0; k < CALLS; k++) {
-        printf("%-10s%10lu%10lu\n", calls[k].name, taken[k][SMALL], taken[k][LARGEST]);
+        printf("%-12s%10lu%10lu\n", calls[k].name, taken[k][SMALL], taken[k][LARGEST]);
         if (taken[k][SMALL] > LHSTAR_STACK_BYTES || taken[k][LARGEST] > LHSTAR_STACK_BYTES) {
             fprintf(stderr, "stack: %s took more than LHSTAR_STACK_BYTES\n", calls[k].name);
             failed = 1;

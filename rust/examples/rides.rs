@@ -8,11 +8,8 @@ fn main() {
     assert_eq!(lhstar::join(&mut table, 1), Reply::Done);
 
     for key in [5, 3, 9, 14, 7] {
-        let answer = lhstar::insert(&mut file, &mut table, 0, key, b"a ride, uphill");
+        let answer = lhstar::insert_split(&mut file, &mut table, 0, key, b"a ride, uphill", 80);
         assert_eq!(answer.reply(), Reply::Done);
-        if answer.count() > 2 {
-            assert_eq!(lhstar::split(&mut file).reply, Reply::Done);
-        }
     }
 
     let answer = lhstar::search(&file, &mut table, 1, 9);

@@ -8,7 +8,8 @@ const ROUTE: usize = 2;
 const COUNT: usize = 8;
 const PAYLOAD: usize = 10;
 
-/// What [`insert`](crate::insert) and [`search`](crate::search) answer: the block of 24 bytes that the library filled.
+/// What [`insert`](crate::insert) and [`search`](crate::search) answer, and what [`insert_split`](crate::insert_split)
+/// answers of its insert: the block of 24 bytes that the library filled.
 ///
 /// ```
 /// # use lhstar::{Reply, create, join, insert, search, file_bytes};
@@ -28,11 +29,11 @@ const PAYLOAD: usize = 10;
 pub struct AnswerBlock([u8; ANSWER_BYTES]);
 
 impl AnswerBlock {
-    /// The block that a call fills. The call is lent all of it, so it never stays empty.
-    pub(crate) fn filled_by(call: impl FnOnce(&mut [u8]) -> u8) -> AnswerBlock {
+    /// The block that a call fills, and what the call returns. It is lent all of the block, which never stays empty.
+    pub(crate) fn filled_by<T>(call: impl FnOnce(&mut [u8]) -> T) -> (AnswerBlock, T) {
         let mut block = [0; ANSWER_BYTES];
-        call(&mut block);
-        AnswerBlock(block)
+        let returned = call(&mut block);
+        (AnswerBlock(block), returned)
     }
 
     /// The reply.
@@ -40,8 +41,8 @@ impl AnswerBlock {
         Reply::given(self.0[REPLY].into())
     }
 
-    /// The buckets that the key came by, in order: at most [`ROUTE_MOST`](crate::ROUTE_MOST), none with replies 2 to 6,
-    /// and with [`BucketUnsound`](Reply::BucketUnsound) the unsound one last.
+    /// The buckets that the key came by, in order: at most [`ROUTE_MOST`](crate::ROUTE_MOST), none with replies 2 to 6
+    /// and 15, and with [`BucketUnsound`](Reply::BucketUnsound) the unsound one last, unless a [`LoadAnswer`] names it.
     pub fn route(&self) -> impl DoubleEndedIterator<Item = u16> + ExactSizeIterator + Clone {
         let numbers = self.0[ROUTE..COUNT].chunks_exact(2).map(|pair| u16::from_le_bytes([pair[0], pair[1]]));
         numbers.take(self.0[ROUTE_LENGTH].into())
@@ -53,7 +54,8 @@ impl AnswerBlock {
         forwards(self)
     }
 
-    /// How many records the bucket holds after an accepted insert, 1 to 64; else 0. Above the capacity a split is due.
+    /// How many records the bucket holds after an accepted insert and before any split, 1 to 64; else 0. Above the
+    /// capacity it is overfull.
     #[must_use]
     pub fn count(&self) -> u8 {
         self.0[COUNT]
@@ -84,6 +86,52 @@ pub struct SplitAnswer {
     pub new_bucket: Option<u16>,
 }
 
+/// What load control did after an insert: what became of the split of an [`insert_split`](crate::insert_split).
+///
+/// ```
+/// assert_eq!(lhstar::Control::NoRoom as u8, 2);
+/// ```
+#[repr(u8)]
+#[derive(Clone, Copy, Debug, PartialEq, Eq, Hash)]
+pub enum Control {
+    /// None was due, or the insert was refused.
+    NotDue = 0,
+    /// The bucket at the split pointer was split.
+    Done = 1,
+    /// One was due, but the file has its most buckets.
+    NoRoom = 2,
+}
+
+impl Control {
+    const ALL: [Control; 3] = [Control::NotDue, Control::Done, Control::NoRoom];
+
+    /// The outcome that the library gave as a number.
+    pub(crate) fn given(number: u32) -> Control {
+        Control::ALL[number as usize]
+    }
+}
+
+/// What [`insert_split`](crate::insert_split) answers.
+#[must_use = "the insert may have been refused"]
+#[derive(Clone, Copy, Debug, PartialEq, Eq, Hash)]
+pub struct LoadAnswer {
+    /// The block of the insert: its reply, route and count.
+    pub insert: AnswerBlock,
+    /// What became of the split.
+    pub split: Control,
+    /// The bucket that was split; with [`BucketUnsound`](Reply::BucketUnsound) the unsound one, if the route is whole.
+    pub old_bucket: Option<u16>,
+    /// The new bucket, if the file was split.
+    pub new_bucket: Option<u16>,
+}
+
+impl LoadAnswer {
+    /// The reply.
+    pub fn reply(&self) -> Reply {
+        self.insert.reply()
+    }
+}
+
 /// What [`check`](crate::check) answers.
 #[must_use = "the file may be unsound"]
 #[derive(Clone, Copy, Debug, PartialEq, Eq, Hash)]
@@ -106,4 +154,17 @@ pub struct ScanAnswer<'lists> {
     pub visits: &'lists [u16],
     /// The matching keys, in visit order and then slot order; empty if the scan was refused.
     pub matches: &'lists [u64],
+}
+
+#[cfg(test)]
+mod tests {
+    use super::*;
+
+    #[test]
+    fn each_outcome_stands_at_its_number() {
+        for (number, outcome) in Control::ALL.into_iter().enumerate() {
+            assert_eq!(outcome as usize, number);
+            assert_eq!(Control::given(number as u32), outcome);
+        }
+    }
 }

@@ -1,6 +1,6 @@
 //! The library's C boundary, as `include/lhstar.h` declares it.
 
-use crate::raw::{CheckAnswer, ScanAnswer, SplitAnswer, ViewAnswer};
+use crate::raw::{CheckAnswer, LoadAnswer, ScanAnswer, SplitAnswer, ViewAnswer};
 
 unsafe extern "C" {
     pub fn lhstar_create(file: *mut u8, file_length: usize, capacity: u64, slots: u64, most: u64) -> u8;
@@ -28,6 +28,19 @@ unsafe extern "C" {
         answer_length: usize,
     ) -> u8;
     pub fn lhstar_split(file: *mut u8, file_length: usize) -> SplitAnswer;
+    pub fn lhstar_insert_split(
+        file: *mut u8,
+        file_length: usize,
+        table: *mut u8,
+        table_length: usize,
+        client: u64,
+        key: u64,
+        payload: *const u8,
+        payload_length: usize,
+        threshold: u64,
+        answer: *mut u8,
+        answer_length: usize,
+    ) -> LoadAnswer;
     pub fn lhstar_check(file: *const u8, file_length: usize) -> CheckAnswer;
     pub fn lhstar_scan(
         file: *const u8,

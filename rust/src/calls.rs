@@ -1,6 +1,6 @@
 //! The calls, with types in place of numbers.
 
-use crate::answer::{AnswerBlock, CheckAnswer, ScanAnswer, SplitAnswer};
+use crate::answer::{AnswerBlock, CheckAnswer, Control, LoadAnswer, ScanAnswer, SplitAnswer};
 use crate::{NO_BUCKET, PAYLOAD_BYTES, Reply, raw};
 
 /// A bucket's number, where there is one.
@@ -48,7 +48,8 @@ pub fn join(table: &mut [u8], client: u64) -> Reply {
 /// Replies: `TableLength`, `NoClient`, `ClientUnsound`, `HeaderUnsound`, `ClientAhead`, `BucketUnsound` (the first on
 /// the route), `KeyHeld`, `BucketFull`, else `Done`. With `Done` the record stands in its bucket's first free slot.
 /// With `Done`, `KeyHeld` and `BucketFull` the image is adjusted if the first bucket sent the key on. Else file and
-/// table stay untouched. It never splits: [`AnswerBlock::count`] says how full the bucket is.
+/// table stay untouched. It never splits: [`AnswerBlock::count`] says how full the bucket is, and [`insert_split`]
+/// splits where the load asks for it.
 ///
 /// ```
 /// use lhstar::{CLIENT_BYTES, Reply, create, file_bytes, insert, join};
@@ -66,7 +67,7 @@ pub fn join(table: &mut [u8], client: u64) -> Reply {
 /// ```
 #[inline]
 pub fn insert(file: &mut [u8], table: &mut [u8], client: u64, key: u64, payload: &[u8; PAYLOAD_BYTES]) -> AnswerBlock {
-    AnswerBlock::filled_by(|block| raw::insert(file, table, client, key, payload, block))
+    AnswerBlock::filled_by(|block| raw::insert(file, table, client, key, payload, block)).0
 }
 
 /// Searches a key by the client's image.
@@ -88,7 +89,7 @@ pub fn insert(file: &mut [u8], table: &mut [u8], client: u64, key: u64, payload:
 /// ```
 #[inline]
 pub fn search(file: &[u8], table: &mut [u8], client: u64, key: u64) -> AnswerBlock {
-    AnswerBlock::filled_by(|block| raw::search(file, table, client, key, block))
+    AnswerBlock::filled_by(|block| raw::search(file, table, client, key, block)).0
 }
 
 /// Splits bucket n into n and n + 2^i and moves the split pointer on; clients learn of it by their own calls.
@@ -110,6 +111,50 @@ pub fn search(file: &[u8], table: &mut [u8], client: u64, key: u64) -> AnswerBlo
 pub fn split(file: &mut [u8]) -> SplitAnswer {
     let raw::SplitAnswer { reply, old_bucket, new_bucket } = raw::split(file);
     SplitAnswer { reply: Reply::given(reply), old_bucket: bucket(old_bucket), new_bucket: bucket(new_bucket) }
+}
+
+/// Inserts as [`insert`] does, decides by the load whether a split is due, and does it: all that a coordinator with
+/// load control has to call.
+///
+/// Where the key's bucket s then holds x records, more than the capacity b, a split is due if 100 * 2^i * x * f >
+/// threshold * b * (2^i + n), with f = 2 if s < n or s >= 2^i and else 1, in the state (i, n) before it. Bucket n is
+/// split, which may be s or another. In a file of its most buckets the record is only inserted.
+///
+/// Replies: `Threshold` (not 1 to [`THRESHOLD_MOST`](crate::THRESHOLD_MOST)), `TableLength`, `NoClient`,
+/// `ClientUnsound`, `HeaderUnsound`, `ClientAhead`, `BucketUnsound` (the first on the route), `KeyHeld`, `BucketFull`,
+/// `BucketUnsound` (bucket n, then the new region, where the insert would be accepted and a split is due and possible),
+/// else `Done`. With `Done`, `KeyHeld` and `BucketFull` the image is adjusted if the first bucket sent the key on. Else
+/// file and table stay untouched: with the last `BucketUnsound` nothing is placed.
+///
+/// ```
+/// use lhstar::{CLIENT_BYTES, Reply, Control, create, file_bytes, insert_split, join};
+///
+/// let mut file = vec![0; file_bytes(4, 2)];
+/// let mut table = [0; CLIENT_BYTES];
+/// assert_eq!(create(&mut file, 2, 4, 2), Reply::Done);
+/// assert_eq!(join(&mut table, 0), Reply::Done);
+/// let mut put = |key| {
+///     let answer = insert_split(&mut file, &mut table, 0, key, b"a ride, uphill", 80);
+///     assert_eq!(answer.reply(), Reply::Done);
+///     (answer.insert.count(), answer.split, answer.old_bucket, answer.new_bucket)
+/// };
+/// assert_eq!(put(1), (1, Control::NotDue, None, None));
+/// assert_eq!(put(3), (2, Control::NotDue, None, None));
+/// assert_eq!(put(5), (3, Control::Done, Some(0), Some(1)));
+/// assert_eq!(put(7), (4, Control::NoRoom, None, None));
+/// ```
+#[inline]
+pub fn insert_split(
+    file: &mut [u8],
+    table: &mut [u8],
+    client: u64,
+    key: u64,
+    payload: &[u8; PAYLOAD_BYTES],
+    threshold: u64,
+) -> LoadAnswer {
+    let call = |block: &mut [u8]| raw::insert_split(file, table, client, key, payload, threshold, block);
+    let (insert, raw::LoadAnswer { split, old_bucket, new_bucket, .. }) = AnswerBlock::filled_by(call);
+    LoadAnswer { insert, split: Control::given(split), old_bucket: bucket(old_bucket), new_bucket: bucket(new_bucket) }
 }
 
 /// Scans every bucket by the client's image for the keys of one lift. It writes the numbers of the buckets as they are

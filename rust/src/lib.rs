@@ -19,11 +19,8 @@
 //! assert_eq!(lhstar::join(&mut table, 1), Reply::Done);
 //!
 //! for key in 1..=6 {
-//!     let answer = lhstar::insert(&mut file, &mut table, 0, key, b"a ride, uphill");
+//!     let answer = lhstar::insert_split(&mut file, &mut table, 0, key, b"a ride, uphill", 80);
 //!     assert_eq!(answer.reply(), Reply::Done);
-//!     if answer.count() > 2 {
-//!         assert_eq!(lhstar::split(&mut file).reply, Reply::Done);
-//!     }
 //! }
 //!
 //! let answer = lhstar::search(&file, &mut table, 1, 5);
@@ -45,12 +42,15 @@ mod calls;
 pub mod raw;
 mod reply;
 
-pub use answer::{AnswerBlock, CheckAnswer, ScanAnswer, SplitAnswer};
-pub use calls::{check, create, forwards, insert, join, parent, scan, search, split, view};
+pub use answer::{AnswerBlock, CheckAnswer, Control, LoadAnswer, ScanAnswer, SplitAnswer};
+pub use calls::{check, create, forwards, insert, insert_split, join, parent, scan, search, split, view};
 pub use reply::Reply;
 
 /// Stands where there is no bucket, in the answers of [`raw`].
 pub const NO_BUCKET: u32 = 65_535;
+
+/// The greatest threshold of [`insert_split`], in percent; the least is 1.
+pub const THRESHOLD_MOST: u64 = 100;
 
 /// The most buckets of a route.
 pub const ROUTE_MOST: usize = 3;

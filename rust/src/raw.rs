@@ -28,6 +28,20 @@ pub struct SplitAnswer {
     pub new_bucket: u32,
 }
 
+/// What [`insert_split`] answers.
+#[repr(C)]
+#[derive(Clone, Copy, Debug, PartialEq, Eq)]
+pub struct LoadAnswer {
+    /// The reply.
+    pub reply: u32,
+    /// What became of the split: 0 not due, 1 done, 2 due in a file of its most buckets. With every refusal 0.
+    pub split: u32,
+    /// Where a split was done the bucket that was split; with 7 of the split the unsound one.
+    pub old_bucket: u32,
+    /// Where a split was done the new bucket.
+    pub new_bucket: u32,
+}
+
 /// What [`check`] answers.
 #[repr(C)]
 #[derive(Clone, Copy, Debug, PartialEq, Eq)]
@@ -121,6 +135,36 @@ pub fn search(file: &[u8], table: &mut [u8], client: u64, key: u64, answer: &mut
 pub fn split(file: &mut [u8]) -> SplitAnswer {
     // SAFETY: pointer and length are of one slice, lent for this call.
     unsafe { boundary::lhstar_split(file.as_mut_ptr(), file.len()) }
+}
+
+/// [`insert_split`](crate::insert_split), with a payload and an answer block of any length, its answer in numbers. With
+/// 14 the block stays as it was.
+#[inline]
+pub fn insert_split(
+    file: &mut [u8],
+    table: &mut [u8],
+    client: u64,
+    key: u64,
+    payload: &[u8],
+    threshold: u64,
+    answer: &mut [u8],
+) -> LoadAnswer {
+    // SAFETY: each pointer and length are of one slice, lent for this call; the three lent for writing overlap nothing.
+    unsafe {
+        boundary::lhstar_insert_split(
+            file.as_mut_ptr(),
+            file.len(),
+            table.as_mut_ptr(),
+            table.len(),
+            client,
+            key,
+            payload.as_ptr(),
+            payload.len(),
+            threshold,
+            answer.as_mut_ptr(),
+            answer.len(),
+        )
+    }
 }
 
 /// [`check`](crate::check), its answer in numbers.

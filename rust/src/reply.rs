@@ -10,7 +10,7 @@ use core::fmt;
 ///
 /// assert_eq!(Reply::BucketFull as u8, 9);
 /// assert_eq!(Reply::try_from(9), Ok(Reply::BucketFull));
-/// assert_eq!(Reply::try_from(15), Err(15));
+/// assert_eq!(Reply::try_from(16), Err(16));
 /// assert_eq!(Reply::KeyHeld.to_string(), "the key is already held");
 /// ```
 #[must_use = "a call may have been refused"]
@@ -47,10 +47,12 @@ pub enum Reply {
     Figures = 13,
     /// The answer block is not 24 bytes, or insert's payload not 14. Only the calls of [`raw`](crate::raw) give it.
     BlockLength = 14,
+    /// Insert with load control: the threshold is not 1 to [`THRESHOLD_MOST`](crate::THRESHOLD_MOST).
+    Threshold = 15,
 }
 
 impl Reply {
-    const ALL: [Reply; 15] = [
+    const ALL: [Reply; 16] = [
         Reply::Done,
         Reply::Absent,
         Reply::TableLength,
@@ -66,6 +68,7 @@ impl Reply {
         Reply::MatchesShort,
         Reply::Figures,
         Reply::BlockLength,
+        Reply::Threshold,
     ];
 
     /// The reply that the library gave as a number.
@@ -107,6 +110,7 @@ impl fmt::Display for Reply {
             Reply::MatchesShort => "the match list is shorter than the matches",
             Reply::Figures => "the figures are out of range, or not the file's length",
             Reply::BlockLength => "the answer block is not 24 bytes, or the payload not 14",
+            Reply::Threshold => "the threshold is not 1 to 100",
         })
     }
 }

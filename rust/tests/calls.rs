@@ -1,9 +1,9 @@
-//! Document 01's worked examples and every reply, by the calls of this crate.
+//! Document 01's worked examples, load control and every reply, by the calls of this crate.
 
-use lhstar::raw;
-use lhstar::{ANSWER_BYTES, CLIENT_BYTES, HEADER_BYTES, NO_BUCKET, PAYLOAD_BYTES, Reply, file_bytes, region_bytes};
-use lhstar::{AnswerBlock, CheckAnswer, SplitAnswer};
-use lhstar::{check, create, forwards, insert, join, parent, scan, search, split, view};
+use lhstar::{ANSWER_BYTES, CLIENT_BYTES, HEADER_BYTES, NO_BUCKET, PAYLOAD_BYTES, SLOT_BYTES, THRESHOLD_MOST};
+use lhstar::{AnswerBlock, CheckAnswer, Control, LoadAnswer, SplitAnswer};
+use lhstar::{Reply, file_bytes, raw, region_bytes};
+use lhstar::{check, create, forwards, insert, insert_split, join, parent, scan, search, split, view};
 
 const CAPACITY: u64 = 2;
 const SLOTS: u64 = 4;
@@ -35,8 +35,25 @@ impl Rides {
         insert(&mut self.file, &mut self.table, 0, key, PAYLOAD)
     }
 
+    fn insert_split(&mut self, key: u64, threshold: u64) -> LoadAnswer {
+        insert_split(&mut self.file, &mut self.table, 0, key, PAYLOAD, threshold)
+    }
+
+    /// Inserts keys that are accepted, without splitting, by an image that knows the file's state.
+    fn put(&mut self, keys: &[u64]) {
+        let mut knowing = [b'L', b'C', self.file[2], 0, self.file[4], 0, 0, 0];
+        for &key in keys {
+            assert_eq!(insert(&mut self.file, &mut knowing, 0, key, PAYLOAD).reply(), Reply::Done);
+        }
+    }
+
     fn search(&mut self, key: u64) -> AnswerBlock {
         search(&self.file, &mut self.table, 0, key)
+    }
+
+    /// The low bytes of a bucket's keys, in slot order.
+    fn keys(&self, bucket: u64) -> Vec<u8> {
+        view(&self.file, bucket).chunks_exact(SLOT_BYTES).map(|slot| slot[2]).collect()
     }
 
     fn region(&mut self, bucket: usize) -> &mut [u8] {
@@ -91,6 +108,103 @@ fn an_accepted_insert_answers_the_count() {
     assert_eq!(rides.insert(5).count(), 0);
     assert_eq!(rides.insert(4).reply(), Reply::KeyHeld);
     assert_eq!(rides.insert(4).count(), 0);
+}
+
+/// What a load answer says of its split.
+fn split_of(answer: LoadAnswer) -> (Control, Option<u16>, Option<u16>) {
+    (answer.split, answer.old_bucket, answer.new_bucket)
+}
+
+const NOT_DUE: (Control, Option<u16>, Option<u16>) = (Control::NotDue, None, None);
+const NO_ROOM: (Control, Option<u16>, Option<u16>) = (Control::NoRoom, None, None);
+
+#[test]
+fn an_overfull_bucket_is_split_itself() {
+    let mut rides = Rides::new(0, (0, 0));
+    assert_eq!([1, 2].map(|key| split_of(rides.insert_split(key, 80))), [NOT_DUE; 2]);
+    let answer = rides.insert_split(3, 80);
+    assert_eq!((answer.reply(), answer.insert.count()), (Reply::Done, 3));
+    assert_eq!(split_of(answer), (Control::Done, Some(0), Some(1)));
+    assert_eq!((rides.keys(0), rides.keys(1)), (vec![2], vec![1, 3]));
+    assert_eq!(check(&rides.file).reply, Reply::Done);
+}
+
+#[test]
+fn an_overfull_bucket_makes_another_split() {
+    let mut rides = Rides::new(1, (0, 0));
+    rides.put(&[1, 2, 3, 4]);
+    let answer = rides.insert_split(5, 80);
+    assert_eq!((answer.reply(), answer.insert.count()), (Reply::Done, 3));
+    assert_eq!((answer.insert.route().collect::<Vec<_>>(), rides.image()), (vec![0, 1], (1, 0)));
+    assert_eq!(split_of(answer), (Control::Done, Some(0), Some(2)));
+    assert_eq!([0, 1, 2].map(|bucket| rides.keys(bucket)), [vec![4], vec![1, 3, 5], vec![2]]);
+    assert_eq!(check(&rides.file).reply, Reply::Done);
+}
+
+/// In state (1, 1) bucket 1 of three records has 100 * 2 * 3 on the one side and threshold * 2 * 3 on the other.
+#[test]
+fn an_overfull_bucket_may_not_be_due() {
+    for (threshold, split) in [(THRESHOLD_MOST, NOT_DUE), (99, (Control::Done, Some(1), Some(3)))] {
+        let mut rides = Rides::new(2, (1, 1));
+        rides.put(&[1, 3]);
+        let answer = rides.insert_split(5, threshold);
+        assert_eq!((answer.reply(), answer.insert.count(), split_of(answer)), (Reply::Done, 3, split));
+    }
+}
+
+#[test]
+fn a_file_of_its_most_buckets_only_inserts() {
+    let mut rides = Rides::new(15, (4, 0));
+    rides.put(&[1, 17]);
+    assert_eq!([33, 49].map(|key| split_of(rides.insert_split(key, 80))), [NO_ROOM; 2]);
+    assert_eq!(rides.keys(1), [1, 17, 33, 49]);
+    let full = rides.insert_split(65, 80);
+    assert_eq!((full.reply(), full.insert.count(), split_of(full)), (Reply::BucketFull, 0, NOT_DUE));
+    let held = rides.insert_split(17, 80);
+    assert_eq!((held.reply(), held.insert.count(), split_of(held)), (Reply::KeyHeld, 0, NOT_DUE));
+}
+
+#[test]
+fn a_threshold_is_1_to_100() {
+    for threshold in [0, THRESHOLD_MOST + 1, 1 << 32, u64::MAX] {
+        let mut rides = Rides::new(2, (13, 0));
+        let file = rides.file;
+        let answer = rides.insert_split(5, threshold);
+        assert_eq!((answer.reply(), split_of(answer)), (Reply::Threshold, NOT_DUE));
+        assert_eq!(&answer.insert.as_bytes()[..10], &[15, 0, 255, 255, 255, 255, 255, 255, 0, 0]);
+        assert!(rides.file == file && rides.image() == (13, 0));
+    }
+    for threshold in [1, THRESHOLD_MOST] {
+        assert_eq!(Rides::new(2, (13, 0)).insert_split(5, threshold).reply(), Reply::ClientUnsound);
+    }
+}
+
+/// Key 11 comes by buckets 0 and 3, which is then overfull; bucket 1 would be split and bucket 5 born.
+#[test]
+fn with_an_unsound_region_of_the_split_nothing_is_placed() {
+    for (spoiled, told) in [(&[1][..], 1), (&[5], 5), (&[1, 5], 1)] {
+        let mut rides = Rides::new(4, (0, 0));
+        rides.put(&[3, 7]);
+        for &region in spoiled {
+            rides.region(region)[7] = 1;
+        }
+        let file = rides.file;
+        let answer = rides.insert_split(11, 80);
+        assert_eq!((answer.reply(), answer.insert.count()), (Reply::BucketUnsound, 0));
+        assert_eq!(answer.insert.route().collect::<Vec<_>>(), [0, 3]);
+        assert_eq!(split_of(answer), (Control::NotDue, Some(told), None));
+        assert!(rides.file == file && rides.image() == (0, 0));
+    }
+}
+
+#[test]
+fn an_unsound_bucket_on_the_route_is_told_by_the_route() {
+    let mut rides = Rides::new(4, (0, 0));
+    rides.put(&[3, 7]);
+    rides.region(3)[7] = 1;
+    let answer = rides.insert_split(11, 80);
+    assert_eq!((answer.reply(), split_of(answer)), (Reply::BucketUnsound, NOT_DUE));
+    assert_eq!(answer.insert.route().collect::<Vec<_>>(), [0, 3]);
 }
 
 #[test]
@@ -160,6 +274,10 @@ fn raw_calls_take_every_length() {
     let reply = raw::insert(&mut rides.file, &mut rides.table, 0, 5, PAYLOAD, &mut long);
     assert_eq!((Reply::try_from(reply), long), (Ok(Reply::BlockLength), [7; ANSWER_BYTES + 1]));
     assert_eq!(raw::insert(&mut rides.file, &mut rides.table, 0, 5, &[], &mut long[1..]), 14);
+    let refused = raw::LoadAnswer { reply: 14, split: 0, old_bucket: NO_BUCKET, new_bucket: NO_BUCKET };
+    assert_eq!(raw::insert_split(&mut rides.file, &mut rides.table, 0, 5, PAYLOAD, 0, &mut long), refused);
+    assert_eq!(raw::insert_split(&mut rides.file, &mut rides.table, 0, 5, &[], 80, &mut long[1..]), refused);
+    assert_eq!(long, [7; ANSWER_BYTES + 1]);
     assert_eq!(raw::search(&rides.file, &mut rides.table, 0, 5, &mut []), 14);
     assert_eq!(raw::forwards(&long), 0);
     assert_eq!(raw::create(&mut [], 0, 0, 0), 13);

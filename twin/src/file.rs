@@ -13,6 +13,7 @@ const HIGHEST_LEVEL: u32 = 12;
 #[derive(Clone, Copy, Debug)]
 pub struct Header {
     pub state: State,
+    pub capacity: u32,
     pub slots: usize,
     pub most: u32,
 }
@@ -51,7 +52,7 @@ impl Header {
         if pointer >> level != 0 || state.bucket_count() > most {
             return None;
         }
-        Some(Header { state, slots: slots as usize, most })
+        Some(Header { state, capacity: capacity as u32, slots: slots as usize, most })
     }
 
     /// Where a bucket's region starts in the file.
@@ -80,6 +81,35 @@ impl Header {
     pub fn judge(&self, file: &[u8], bucket: u32) -> Option<usize> {
         let (region, level) = (self.region(file, bucket), self.state.level_of(bucket));
         bucket::count_of(region, level).filter(|&count| judge::sound(region, count, bucket, level))
+    }
+
+    /// Whether the file has fewer than its most buckets.
+    #[inline]
+    pub fn has_room(&self) -> bool {
+        self.state.bucket_count() < self.most
+    }
+
+    /// The bucket that a split divides, and the one that is then born.
+    #[inline]
+    pub fn split_buckets(&self) -> (u32, u32) {
+        (self.state.pointer, self.state.bucket_count())
+    }
+
+    /// Whether the region of a bucket to be born is sound.
+    #[inline]
+    pub fn can_be_born(&self, file: &[u8], bucket: u32) -> bool {
+        bucket::all_zero(self.region(file, bucket))
+    }
+
+    /// Splits the bucket at the pointer, which has `count` records; it and the new region are sound.
+    #[inline]
+    pub fn grow(&self, file: &mut [u8], count: usize) {
+        let (old_bucket, new_bucket) = self.split_buckets();
+        let (lower, upper) = file.split_at_mut(self.region_start(new_bucket));
+        let old = self.region_mut(lower, old_bucket);
+        let newborn = &mut upper[..region_length(self.slots)];
+        bucket::divide(old, newborn, count, self.state.level);
+        write_state(file, self.state.grown());
     }
 }
 
@@ -150,22 +180,17 @@ pub fn split(file: &mut [u8]) -> SplitAnswer {
     let Some(header) = Header::read(file) else {
         return SplitAnswer::refused(reply::HEADER, NONE.into());
     };
-    let old_bucket = header.state.pointer;
-    let new_bucket = header.state.bucket_count();
-    if new_bucket == header.most {
+    let (old_bucket, new_bucket) = header.split_buckets();
+    if !header.has_room() {
         return SplitAnswer::refused(reply::ALL_BUCKETS, NONE.into());
     }
     let Some(count) = header.judge(file, old_bucket) else {
         return SplitAnswer::refused(reply::UNSOUND, old_bucket);
     };
-    if !bucket::all_zero(header.region(file, new_bucket)) {
+    if !header.can_be_born(file, new_bucket) {
         return SplitAnswer::refused(reply::UNSOUND, new_bucket);
     }
-    let (lower, upper) = file.split_at_mut(header.region_start(new_bucket));
-    let old = header.region_mut(lower, old_bucket);
-    let newborn = &mut upper[..region_length(header.slots)];
-    bucket::divide(old, newborn, count, header.state.level);
-    write_state(file, header.state.grown());
+    header.grow(file, count);
     SplitAnswer { reply: reply::DONE.into(), old_bucket, new_bucket }
 }
 

@@ -1,10 +1,11 @@
 //! The twin: an LH* file over lent memory, written a second time from the
-//! document alone, to be compared with the proved library and raced with it.
+//! documents alone, to be compared with the proved library and raced with it.
 
 pub mod bucket;
 pub mod client;
 pub mod file;
 pub mod judge;
+pub mod load;
 pub mod random;
 pub mod ride;
 pub mod ridefile;
@@ -15,6 +16,7 @@ pub mod sides;
 
 pub use client::join;
 pub use file::{check, create, split, view, CheckAnswer, SplitAnswer, ViewAnswer};
+pub use load::{insert_split, LoadAnswer};
 pub use ride::{forwards, insert, search};
 pub use rules::parent;
 pub use scan::{scan, ScanAnswer};
@@ -39,4 +41,5 @@ pub mod reply {
     pub const MATCHES_SHORT: u8 = 12;
     pub const FIGURES: u8 = 13;
     pub const BLOCK_LENGTH: u8 = 14;
+    pub const THRESHOLD: u8 = 15;
 }

@@ -11,15 +11,15 @@ const COUNT: usize = 8;
 const PAYLOAD_START: usize = 10;
 const NO_PAYLOAD: Payload = [0; bucket::PAYLOAD_LENGTH];
 
-type Answer = [u8; ANSWER_LENGTH];
+pub type Answer = [u8; ANSWER_LENGTH];
 
 /// The buckets that a key came by, as the answer's first eight bytes have them without the reply: in the second byte
 /// how many they are, then three numbers, 65,535 where unused.
 #[derive(Clone, Copy)]
-struct Route(u64);
+pub struct Route(u64);
 
 impl Route {
-    const NONE: Route = Route(0xFFFF_FFFF_FFFF_0000);
+    pub const NONE: Route = Route(0xFFFF_FFFF_FFFF_0000);
 
     #[inline]
     fn of_one(bucket: u32) -> Route {
@@ -37,6 +37,18 @@ impl Route {
         Route((self.0 ^ (0xFFFF ^ u64::from(bucket)) << unused) + 0x100)
     }
 
+    /// Fills the answer of a call that refuses.
+    #[inline]
+    pub fn refuse(self, answer: &mut Answer, reply: u8) -> u8 {
+        self.answer(answer, reply, 0, &NO_PAYLOAD)
+    }
+
+    /// Fills the answer of an insert that leaves so many records.
+    #[inline]
+    pub fn accept(self, answer: &mut Answer, count: usize) -> u8 {
+        self.answer(answer, reply::DONE, count as u8, &NO_PAYLOAD)
+    }
+
     /// Fills the answer.
     #[inline]
     fn answer(self, answer: &mut Answer, reply: u8, count: u8, payload: &Payload) -> u8 {
@@ -48,24 +60,36 @@ impl Route {
 }
 
 /// A key at the bucket that keeps it.
-struct Arrival {
-    header: Header,
-    route: Route,
-    level: u32,
-    region_start: usize,
-    count: usize,
+pub struct Arrival {
+    pub header: Header,
+    pub route: Route,
+    pub bucket: u32,
+    pub level: u32,
+    pub region_start: usize,
+    pub count: usize,
     /// The slot that holds the key; the count if none does.
     holder: usize,
     image: State,
     next_image: State,
 }
 
+impl Arrival {
+    /// Why an insert is refused here: 8 or 9.
+    #[inline]
+    pub fn refusal(&self) -> Option<u8> {
+        if self.holder < self.count {
+            return Some(reply::HELD);
+        }
+        (self.count == self.header.slots).then_some(reply::FULL)
+    }
+}
+
 /// A ride that stopped with a refusal 2 to 7.
-struct Stop(u8, Route);
+pub struct Stop(pub u8, pub Route);
 
 /// Rides to the key's bucket, reading only.
 #[inline(always)]
-fn ride(file: &[u8], table: &[u8], client: u64, key: u64) -> Result<Arrival, Stop> {
+pub fn ride(file: &[u8], table: &[u8], client: u64, key: u64) -> Result<Arrival, Stop> {
     let refused = |reply| Stop(reply, Route::NONE);
     let image = client::image_of(table, client).map_err(refused)?;
     let header = Header::read(file).ok_or(refused(reply::HEADER))?;
@@ -86,7 +110,7 @@ fn ride(file: &[u8], table: &[u8], client: u64, key: u64) -> Result<Arrival, Sto
             return Err(Stop(reply::UNSOUND, route));
         };
         let Some(next) = rules::onward(bucket, level, key) else {
-            return Ok(Arrival { header, route, level, region_start, count, holder, image, next_image });
+            return Ok(Arrival { header, route, bucket, level, region_start, count, holder, image, next_image });
         };
         if route.is_of_one() {
             next_image = image.adjusted(bucket, level);
@@ -97,7 +121,7 @@ fn ride(file: &[u8], table: &[u8], client: u64, key: u64) -> Result<Arrival, Sto
 }
 
 #[inline]
-fn adjust(table: &mut [u8], client: u64, arrival: &Arrival) {
+pub fn adjust(table: &mut [u8], client: u64, arrival: &Arrival) {
     if arrival.next_image != arrival.image {
         client::write_image(table, client, arrival.next_image);
     }
@@ -109,19 +133,16 @@ pub fn insert(file: &mut [u8], table: &mut [u8], client: u64, key: u64, payload:
         return reply::BLOCK_LENGTH;
     };
     let arrival = match ride(file, table, client, key) {
-        Err(Stop(refusal, route)) => return route.answer(answer, refusal, 0, &NO_PAYLOAD),
+        Err(Stop(refusal, route)) => return route.refuse(answer, refusal),
         Ok(arrival) => arrival,
     };
     adjust(table, client, &arrival);
-    let Arrival { header, route, level, region_start, count, holder, .. } = arrival;
-    if holder < count {
-        return route.answer(answer, reply::HELD, 0, &NO_PAYLOAD);
+    if let Some(refusal) = arrival.refusal() {
+        return arrival.route.refuse(answer, refusal);
     }
-    if count == header.slots {
-        return route.answer(answer, reply::FULL, 0, &NO_PAYLOAD);
-    }
+    let Arrival { route, level, region_start, count, .. } = arrival;
     bucket::place(&mut file[region_start..], level, count, key, payload);
-    route.answer(answer, reply::DONE, (count + 1) as u8, &NO_PAYLOAD)
+    route.accept(answer, count + 1)
 }
 
 /// Searches a key by the client's image.
@@ -130,7 +151,7 @@ pub fn search(file: &[u8], table: &mut [u8], client: u64, key: u64, answer: &mut
         return reply::BLOCK_LENGTH;
     };
     let arrival = match ride(file, table, client, key) {
-        Err(Stop(refusal, route)) => return route.answer(answer, refusal, 0, &NO_PAYLOAD),
+        Err(Stop(refusal, route)) => return route.refuse(answer, refusal),
         Ok(arrival) => arrival,
     };
     adjust(table, client, &arrival);

@@ -1,9 +1,10 @@
 //! The two sides of every comparison: the proved library and the twin.
 
-use crate::{CheckAnswer, ScanAnswer, SplitAnswer, ViewAnswer};
+use crate::{CheckAnswer, LoadAnswer, ScanAnswer, SplitAnswer, ViewAnswer};
 use lhstar::raw;
 
 pub type Insert = fn(&mut [u8], &mut [u8], u64, u64, &[u8], &mut [u8]) -> u8;
+pub type InsertSplit = fn(&mut [u8], &mut [u8], u64, u64, &[u8], u64, &mut [u8]) -> LoadAnswer;
 pub type Search = fn(&[u8], &mut [u8], u64, u64, &mut [u8]) -> u8;
 pub type Scan = fn(&[u8], &[u8], u64, u32, &mut [u16], &mut [u64]) -> ScanAnswer;
 
@@ -14,6 +15,7 @@ pub struct Side {
     pub insert: Insert,
     pub search: Search,
     pub split: fn(&mut [u8]) -> SplitAnswer,
+    pub insert_split: InsertSplit,
     pub check: fn(&[u8]) -> CheckAnswer,
     pub scan: Scan,
     pub view: fn(&[u8], u64) -> ViewAnswer,
@@ -29,6 +31,11 @@ pub const LIBRARY: Side = Side {
     split: |file| {
         let raw::SplitAnswer { reply, old_bucket, new_bucket } = raw::split(file);
         SplitAnswer { reply, old_bucket, new_bucket }
+    },
+    insert_split: |file, table, client, key, payload, threshold, answer| {
+        let raw::LoadAnswer { reply, split, old_bucket, new_bucket } =
+            raw::insert_split(file, table, client, key, payload, threshold, answer);
+        LoadAnswer { reply, split, old_bucket, new_bucket }
     },
     check: |file| {
         let raw::CheckAnswer { reply, bucket } = raw::check(file);
@@ -52,6 +59,7 @@ pub const TWIN: Side = Side {
     insert: crate::insert,
     search: crate::search,
     split: crate::split,
+    insert_split: crate::insert_split,
     check: crate::check,
     scan: crate::scan,
     view: crate::view,

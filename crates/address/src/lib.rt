@@ -3,6 +3,7 @@
 ghost use mathlib.Core.Path.{_≡_};
 ghost use Prim.Native.Nat.{_-_, _≤_, _<_};
 ghost use Rattle.address.specs.Limits.{firstBuckets};
+ghost use Rattle.address.specs.Load.{percent, factor, due};
 ghost use Rattle.address.specs.Room.{widest, Room, ImageRoom};
 ghost use Rattle.address.specs.Rules.{span, hash, buckets, address, level, onward, fate, wrapped, adjusted};
 ghost use Rattle.address.specs.Rules.{child, splitting, newborn, grown, parent};
@@ -36,6 +37,9 @@ pub const MOST_BUCKETS: u32 = 4096;
 pub const MOST_SLOTS: usize = 64;
 
 pub const MOST_TABLE: usize = 2048;
+
+// The whole, in percent: the highest threshold of load control.
+pub const PERCENT: u64 = 100;
 
 // `first` buckets doubled `level` times: 2^level where a file starts with one bucket.
 pub fn span(first: u32, level: u32) -> u32
@@ -186,6 +190,28 @@ pub fn grown(first: u32, image: Image) -> Image
     ensures { λ r. ⌜ r ≡ grown first image ⌝ }
 {
     wrapped(first, image.level, image.pointer + 1)
+}
+
+// What load control multiplies a bucket's count by: 2 where the bucket's level is one up from the file's, else 1.
+fn factor(first: u32, image: Image, bucket: u32) -> u64
+    requires { ⌜ ImageRoom first image ⌝ }
+    ensures { λ r. ⌜ (r ≡ factor first image bucket) × (r ≤ 2) ⌝ }
+{
+    if level_of(first, image, bucket) == image.level {
+        return 1;
+    }
+    2
+}
+
+// Whether the count of a bucket makes a split due, by a threshold in percent.
+pub fn due(first: u32, image: Image, capacity: u32, bucket: u32, count: u32, threshold: u64) -> bool
+    requires { ⌜ ImageRoom first image × (threshold ≤ percent) ⌝ }
+    ensures { λ r. ⌜ r ≡ due first image capacity bucket count threshold ⌝ }
+{
+    let span = span(first, image.level) as u64;
+    let buckets = buckets(first, image) as u64;
+    let factor = factor(first, image, bucket);
+    threshold * capacity as u64 * buckets < PERCENT * span * count as u64 * factor
 }
 
 // The bucket of whose split this one was born, by the leading zeros of its number.

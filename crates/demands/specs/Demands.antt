@@ -13,9 +13,11 @@ use Rattle.client.specs.Table.{exists}
 use Rattle.file.specs.File.{figuresFit, bucketsOf, fileSound, create}
 use Rattle.file.specs.File.Create.{create-reply, create-left}
 use Rattle.ride.specs.Call.{adjustedTable, search, insert}
+use Rattle.load.specs.Load.{insertSplit}
 use Rattle.scan.specs.Scan.{scan}
 use Rattle.scan.specs.Scan.Outcome.{scan-refused}
-use Rattle.demands.specs.Run.{Memory, Call, Insert, Search, AllTyped, Each, after, run}
+use Rattle.demands.specs.Run.{Memory, Call, Insert, InsertSplit, Search, AllTyped, Each, after}
+use Rattle.demands.specs.Run.{run}
 use Rattle.demands.specs.Run.{replied, conditions, Finds, Accepted, Kept, Ready, sent}
 use Rattle.demands.specs.Run.{Reached, VisitsOnce, believed, wrongFirst, forwardsOf, summed}
 use Rattle.demands.specs.Run.{NotJoined, started, FromNothing}
@@ -24,7 +26,8 @@ use Rattle.demands.specs.Run.Clients.{wrong-sends, forwards-summed}
 use Rattle.demands.specs.Run.Fresh.{fresh-ready, fresh-believes, fresh-empty, finds-accepted}
 use Rattle.demands.specs.Run.Held.{whole-run, run-finds}
 use Rattle.demands.specs.Run.Replied.{call-replies, call-untouched, insert-adjusted}
-use Rattle.demands.specs.Run.Replied.{insert-untouched, search-untouched}
+use Rattle.demands.specs.Run.Replied.{load-adjusted, insert-untouched, load-untouched}
+use Rattle.demands.specs.Run.Replied.{search-untouched}
 
 -- Demand 1. Every entry point takes anything at all, judges it itself and gives exactly the
 -- numbered reply that document 01 fixes, first match wins. A refusal changes nothing but what 01
@@ -35,7 +38,7 @@ pub record Demand1 (m : Memory) : Type 0 where
   pub create-replies : (b S M : ℕ)
       → create (m .file) b S M .answer
       ≡ reply (refuse 13 (not (figuresFit (length (m .file)) b S M)) ∷ []) 0
-  -- replies 2 to 14 leave file and table untouched, except that 8 and 9 adjust the image
+  -- replies 2 to 15 leave file and table untouched, except that 8 and 9 adjust the image
   pub untouched : (call : Call) → 1 < replied m call → (replied m call ≡ 8 → ⊥)
       → (replied m call ≡ 9 → ⊥)
       → after m call ≡ m
@@ -44,12 +47,20 @@ pub record Demand1 (m : Memory) : Type 0 where
       ⊎ (replied m (Insert client key payload answer) ≡ 9)
       → after m (Insert client key payload answer)
       ≡ record { file = m .file; table = adjustedTable (m .file) (m .table) client key }
+  pub load-adjusted : (client key : ℕ) (payload : List ℕ) (t : ℕ) (answer : List ℕ)
+      → (replied m (InsertSplit client key payload t answer) ≡ 8)
+      ⊎ (replied m (InsertSplit client key payload t answer) ≡ 9)
+      → after m (InsertSplit client key payload t answer)
+      ≡ record { file = m .file; table = adjustedTable (m .file) (m .table) client key }
   pub create-untouched : (b S M : ℕ) → create (m .file) b S M .answer ≡ 13
       → create (m .file) b S M .file ≡ m .file
   -- 14 touches nothing, not even the answer block
   pub insert-block : (client key : ℕ) (payload answer : List ℕ)
       → replied m (Insert client key payload answer) ≡ 14
       → insert (m .file) (m .table) client key payload answer .block ≡ answer
+  pub load-block : (client key : ℕ) (payload : List ℕ) (t : ℕ) (answer : List ℕ)
+      → replied m (InsertSplit client key payload t answer) ≡ 14
+      → insertSplit (m .file) (m .table) client key payload t answer .block ≡ answer
   pub search-block : (client key : ℕ) (answer : List ℕ) → replied m (Search client key answer) ≡ 14
       → search (m .file) (m .table) client key answer .block ≡ answer
   -- a refused scan leaves both lists and answers counts 0
@@ -66,8 +77,10 @@ demand-1 m = record {
   create-replies = create-reply (m .file);
   untouched = call-untouched m;
   adjusted = insert-adjusted m;
+  load-adjusted = load-adjusted m;
   create-untouched = create-left (m .file);
   insert-block = insert-untouched m;
+  load-block = load-untouched m;
   search-block = search-untouched m;
   scan-lists = scan-refused (m .file) (m .table);
 }

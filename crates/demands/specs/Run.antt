@@ -3,6 +3,7 @@
 pub mod Clients
 pub mod Fresh
 pub mod Held
+pub mod Loading
 pub mod Replied
 pub mod Shut
 use Prim.Native.Nat.{ℕ, _+_, _^_, _≤_, _<_}
@@ -13,6 +14,7 @@ use mathlib.Core.Logic.{_⊎_, _↔_}
 use lib.Dec.{leb, ltb, eqb}
 use lib.ListN.{length, take}
 use Rattle.address.specs.Limits.{firstBuckets}
+use Rattle.address.specs.Load.{thresholdFits}
 use Rattle.address.specs.Rules.{NotAhead, buckets, address, splitting, newborn, forwards, parent}
 use Rattle.address.specs.Rules.Route.{Delivered}
 use Rattle.address.specs.Rules.Scan.{times}
@@ -26,6 +28,7 @@ use Rattle.file.specs.File.{fileSound, lowestUnsound, Checked, check, view, cre
 use Rattle.file.specs.File.{SplitOutcome, split}
 use Rattle.route.specs.Way.{early, cut, wayOf, ownOf, held, full}
 use Rattle.ride.specs.Call.{Outcome, search, insert}
+use Rattle.load.specs.Load.{number, decisionOn, Loaded, insertSplit}
 use Rattle.scan.specs.Scan.{Scanned, matchesOn, visitsOf, scan}
 
 -- The lent memory that lasts from call to call: the file and the client table.
@@ -38,6 +41,7 @@ pub record Memory : Type 0 where
 pub data Call : Type 0 where
   Join : ℕ → Call
   Insert : ℕ → ℕ → List ℕ → List ℕ → Call
+  InsertSplit : ℕ → ℕ → List ℕ → ℕ → List ℕ → Call
   Search : ℕ → ℕ → List ℕ → Call
   Split : Call
   Scan : ℕ → ℕ → List ℕ → List ℕ → Call
@@ -49,6 +53,7 @@ pub data Call : Type 0 where
 pub Typed : Call → Type 0
 Typed (Join client) = Unit {0}
 Typed (Insert client key payload answer) = (key < 256 ^ 8) × Bytes payload
+Typed (InsertSplit client key payload t answer) = (key < 256 ^ 8) × Bytes payload
 Typed (Search client key answer) = Unit {0}
 Typed Split = Unit {0}
 Typed (Scan client lift visits matches) = Unit {0}
@@ -56,14 +61,18 @@ Typed Check = Unit {0}
 Typed (View bucket) = Unit {0}
 Typed (Parent bucket) = Unit {0}
 
--- File and table as an insert or a search leaves them.
+-- File and table as an insert or a search leaves them, and as an insert with load control does.
 pub left : Outcome → Memory
 left outcome = record { file = outcome .file; table = outcome .table }
+
+pub leftLoaded : Loaded → Memory
+leftLoaded outcome = record { file = outcome .file; table = outcome .table }
 
 -- What a call answers: for each, the outcome that its contract is equal to.
 abbrev pub Answer : Call → Type 0
 Answer (Join client) = Joined
 Answer (Insert client key payload answer) = Outcome
+Answer (InsertSplit client key payload t answer) = Loaded
 Answer (Search client key answer) = Outcome
 Answer Split = SplitOutcome
 Answer (Scan client lift visits matches) = Scanned
@@ -75,6 +84,8 @@ pub answered : (m : Memory) (call : Call) → Answer call
 answered m (Join client) = join (m .table) client
 answered m (Insert client key payload answer) = insert (m .file) (m .table) client key payload
     answer
+answered m (InsertSplit client key payload t answer) = insertSplit (m .file) (m .table) client key
+    payload t answer
 answered m (Search client key answer) = search (m .file) (m .table) client key answer
 answered m Split = split (m .file)
 answered m (Scan client lift visits matches) = scan (m .file) (m .table) client lift visits matches
@@ -86,6 +97,8 @@ answered m (Parent bucket) = parent firstBuckets bucket
 pub after : Memory → Call → Memory
 after m (Join client) = record { file = m .file; table = answered m (Join client) .table }
 after m (Insert client key payload answer) = left (answered m (Insert client key payload answer))
+after m (InsertSplit client key payload t answer) =
+    leftLoaded (answered m (InsertSplit client key payload t answer))
 after m (Search client key answer) = left (answered m (Search client key answer))
 after m Split = record { file = answered m Split .file; table = m .table }
 after m (Scan client lift visits matches) = m
@@ -114,6 +127,8 @@ Each Holding m (call ∷ calls) = Holding m call × Each Holding (after m call) 
 pub replied : Memory → Call → ℕ
 replied m (Join client) = answered m (Join client) .answer
 replied m (Insert client key payload answer) = answered m (Insert client key payload answer) .answer
+replied m (InsertSplit client key payload t answer) =
+    answered m (InsertSplit client key payload t answer) .answer
 replied m (Search client key answer) = answered m (Search client key answer) .answer
 replied m Split = answered m Split .answer
 replied m (Scan client lift visits matches) = answered m (Scan client lift visits matches) .answer
@@ -125,16 +140,32 @@ replied m (Parent bucket) = 0
 abbrev pub allSound : Memory → List ℕ → Bool
 allSound m way = every (bucketSoundIn (m .file)) way
 
+-- Insert's conditions behind 14, without load control and with it.
+abbrev pub insertConditions : Memory → ℕ → ℕ → List Refusal
+insertConditions m client key =
+    early (m .file) (m .table) client
+    ++ (refuse 7 (not (allSound m (wayOf (m .file) (imageOf (m .table) client) key)))
+    ∷ refuse 8 (held (m .file) key)
+    ∷ refuse 9 (full (m .file) key)
+    ∷ [])
+
+-- A split is due by load control after an insert of the key, and the file has room for it.
+abbrev pub splits : Memory → ℕ → ℕ → Bool
+splits m key t = eqb (number (decisionOn (m .file) key t)) 1
+
 -- Each reply with its condition, in document 01's order: the first match wins, and 0 is left. (1 is
 -- no refusal, but it has its condition like one.)
 pub conditions : Memory → Call → List Refusal
 conditions m (Join client) = tableRefusals (m .table) client
 conditions m (Insert client key payload answer) =
+    refuse 14 (not (eqb (length answer) 24 && eqb (length payload) 14)) ∷ insertConditions m client key
+conditions m (InsertSplit client key payload t answer) =
     refuse 14 (not (eqb (length answer) 24 && eqb (length payload) 14))
-    ∷ (early (m .file) (m .table) client
-    ++ (refuse 7 (not (allSound m (wayOf (m .file) (imageOf (m .table) client) key)))
-    ∷ refuse 8 (held (m .file) key)
-    ∷ refuse 9 (full (m .file) key)
+    ∷ refuse 15 (not (thresholdFits t))
+    ∷ (insertConditions m client key
+    ++ (refuse 7 (splits m key t && not (bucketSoundIn (m .file) (splitting (stateOf (m .file)))))
+    ∷ refuse 7
+    (splits m key t && not (allZero (regionOf (m .file) (newborn firstBuckets (stateOf (m .file))))))
     ∷ []))
 conditions m (Search client key answer) =
     refuse 14 (not (eqb (length answer) 24))
@@ -173,6 +204,9 @@ pub Accepts : Memory → Ride → Call → Type 0
 Accepts m ride (Join client) = ⊥
 Accepts m ride (Insert client key payload answer) =
     (replied m (Insert client key payload answer) ≡ 0)
+    × (ride ≡ record { key = key; payload = payload })
+Accepts m ride (InsertSplit client key payload t answer) =
+    (replied m (InsertSplit client key payload t answer) ≡ 0)
     × (ride ≡ record { key = key; payload = payload })
 Accepts m ride (Search client key answer) = ⊥
 Accepts m ride Split = ⊥
@@ -213,7 +247,7 @@ pub record Ready (m : Memory) : Type 0 where
   pub none-ahead : (client : ℕ) → exists (m .table) client ≡ true
       → NotAhead firstBuckets (stateOf (m .file)) (imageOf (m .table) client)
 
--- A key that a client sends: insert and search send theirs unless 14 or 2 to 6 refuses them.
+-- A key that a client sends: insert and search send theirs unless 14, 15 or 2 to 6 refuses them.
 pub data Sent : Type 0 where
   Nothing : Sent
   Key : ℕ → ℕ → Sent
@@ -226,6 +260,8 @@ pub sent : Memory → Call → Sent
 sent m (Join client) = Nothing
 sent m (Insert client key payload answer) =
     sentIf (eqb (length answer) 24 && eqb (length payload) 14) m client key
+sent m (InsertSplit client key payload t answer) =
+    sentIf (eqb (length answer) 24 && eqb (length payload) 14 && thresholdFits t) m client key
 sent m (Search client key answer) = sentIf (eqb (length answer) 24) m client key
 sent m Split = Nothing
 sent m (Scan client lift visits matches) = Nothing
@@ -270,6 +306,12 @@ pub summed : (Memory → Sent → ℕ) → Memory → List Call → ℕ
 summed count m [] = 0
 summed count m (call ∷ calls) = count m (sent m call) + summed count (after m call) calls
 
+-- An insert with load control counts as its insert, and as its split where one was done (02 §2).
+pub parts : Memory → ℕ → ℕ → List ℕ → ℕ → List ℕ → List Call
+parts m client key payload t answer =
+    Insert client key payload answer
+    ∷ cond (eqb (number (answered m (InsertSplit client key payload t answer) .split)) 1) (Split ∷ []) []
+
 -- The buckets that a scan visits.
 pub visited : Memory → ℕ → ℕ → List ℕ → List ℕ → List ℕ
 visited m client lift visits matches =
@@ -280,6 +322,7 @@ visited m client lift visits matches =
 pub VisitsOnce : Memory → Call → Type 0
 VisitsOnce m (Join client) = Unit {0}
 VisitsOnce m (Insert client key payload answer) = Unit {0}
+VisitsOnce m (InsertSplit client key payload t answer) = Unit {0}
 VisitsOnce m (Search client key answer) = Unit {0}
 VisitsOnce m Split = Unit {0}
 VisitsOnce m (Scan client lift visits matches) =

@@ -29,7 +29,7 @@ fn put_state(file: &mut [u8], state: Image)
 }
 
 // Divides bucket n of a file with the new bucket, and lets the state grow.
-fn divide(file: &mut [u8], header: Header, old: u32, new: u32)
+pub fn divide(file: &mut [u8], header: Header, old: u32, new: u32)
     requires { ⌜ Known (now file) header × (bucketsOf (now file) < mostOf (now file))
         × (old ≡ splitting (header .state)) × (new ≡ newborn firstBuckets (header .state))
         × (bucketSoundIn (now file) old ≡ true) ⌝ }

@@ -1,2 +1,3 @@
--- The calls for C: what a view is as a place and a length.
+-- The calls for C: what a view is as a place and a length, and load control's outcome by numbers.
+pub mod Load
 pub mod View

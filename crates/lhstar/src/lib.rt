@@ -9,7 +9,9 @@ ghost use Rattle.client.specs.Table.{join};
 ghost use Rattle.file.specs.File.{check, create, split};
 ghost use Rattle.answer.specs.Answer.{forwardsIn};
 ghost use Rattle.ride.specs.Call.{search, insert};
+ghost use Rattle.load.specs.Load.{insertSplit};
 ghost use Rattle.scan.specs.Scan.{leaving, scan};
+ghost use Rattle.lhstar.specs.Load.{Numbered, numbered};
 ghost use Rattle.lhstar.specs.View.{viewStart, viewLength};
 
 // Where a part of the file starts, and its length; 0 and 0 where it is empty.
@@ -17,6 +19,15 @@ ghost use Rattle.lhstar.specs.View.{viewStart, viewLength};
 pub struct ViewAnswer {
     pub start: u64,
     pub length: u64,
+}
+
+// The reply of an insert with load control, the number of what became of its split, and the split's answer.
+#[repr(C)]
+pub struct LoadNumbers {
+    pub reply: u32,
+    pub split: u32,
+    pub old_bucket: u32,
+    pub new_bucket: u32,
 }
 
 // Writes the sound file in state (0, 0) without records.
@@ -50,6 +61,40 @@ pub extern "C" fn lhstar_insert(
         ≡ insert (now (file .entry)) (now (table .entry)) client key (now (payload .entry)) (now (answer .entry)) ⌝ }
 {
     ride::insert(file, table, client, key, payload, answer)
+}
+
+// Inserts a ride through a client, and splits where its bucket's count makes that due.
+#[no_mangle]
+pub extern "C" fn lhstar_insert_split(
+    file: &mut [u8],
+    table: &mut [u8],
+    client: u64,
+    key: u64,
+    payload: &[u8],
+    threshold: u64,
+    answer: &mut [u8],
+) -> LoadNumbers
+    ensures { λ r. ⌜
+        record {
+          answer = r .reply;
+          split = r .split;
+          old = r .«old_bucket»;
+          new = r .«new_bucket»;
+          block = now (answer .exit);
+          table = now (table .exit);
+          file = now (file .exit);
+        }
+        ≡ numbered (insertSplit (now (file .entry)) (now (table .entry)) client key (now (payload .entry)) threshold
+        (now (answer .entry))) ⌝ }
+{
+    let loaded = load::insert_split(file, table, client, key, payload, threshold, answer);
+    let control = loaded.split;
+    LoadNumbers {
+        reply: loaded.reply as u32,
+        split: load::number_of(control),
+        old_bucket: loaded.old_bucket,
+        new_bucket: loaded.new_bucket,
+    }
 }
 
 // Searches a key through a client.

@@ -3,6 +3,7 @@
 pub mod After
 pub mod Keeping
 pub mod Left
+pub mod Placing
 pub mod Replied
 use Prim.Native.Nat.{ℕ, suc}
 use mathlib.Core.Bool.{Bool, cond, not, _&&_}

@@ -94,7 +94,7 @@ pub fn search(file: &[u8], table: &mut [u8], client: u64, key: u64, answer: &mut
 }
 
 // Places a ride in the key's own bucket, and writes the block of an insert that did, with the count then held.
-fn put_placed(
+pub fn put_placed(
     file: &mut [u8],
     header: Header,
     bucket: u32,

@@ -13,17 +13,26 @@
 //!   before each batch, outside of the timed part.
 //! - split: a whole round of splits, from state (i, 0) to (i + 1, 0) where the
 //!   file has all its buckets; restored likewise.
+//! - load insert: the inserts again with load control, none of them overfull.
+//! - load split: inserts with load control, all of them overfull, that do the
+//!   round of splits; the image learns on the way.
 //! - check, scan, scan old: calls on the whole file. A scan finds one key in
 //!   eight; it has a right image, the old one the image (0, 0).
 
 use std::hint::black_box;
 use std::time::{Duration, Instant};
+use twin::bucket::SLOT_LENGTH;
+use twin::file::Header;
+use twin::load::outcome;
 use twin::random::Random;
 use twin::sides::{Side, LIBRARY, TWIN};
 
 const LIFTS: usize = 8;
 const PAYLOAD: [u8; 14] = [9; 14];
 const LONG_BUFFER: usize = 64 << 20;
+/// Where the header has the capacity.
+const CAPACITY: usize = 3;
+const THRESHOLD: u64 = 80;
 
 /// A place to measure in: how large, and how often.
 struct Setting {
@@ -44,6 +53,7 @@ struct Buffers {
     held: Vec<u64>,
     absent: Vec<u64>,
     fresh: Vec<u64>,
+    splitting: Vec<u64>,
     visits: Vec<u16>,
     matches: Vec<u64>,
 }
@@ -77,9 +87,11 @@ impl Buffers {
             }
         }
         let fresh = fresh_keys(&file, &mut table.clone(), setting.batch, random);
+        let splitting = splitting_keys(&file, &mut table.clone(), most - buckets, random);
         let absent = (0..setting.batch).map(|_| random_key(random) | 1 << 63).collect();
         shuffle(&mut held, random);
-        Buffers { file, table, held, absent, fresh, visits: vec![0; most], matches: vec![0; most * slots] }
+        let (visits, matches) = (vec![0; most], vec![0; most * slots]);
+        Buffers { file, table, held, absent, fresh, splitting, visits, matches }
     }
 }
 
@@ -91,6 +103,7 @@ impl Buffers {
         self.held.clone_from(&start.held);
         self.absent.clone_from(&start.absent);
         self.fresh.clone_from(&start.fresh);
+        self.splitting.clone_from(&start.splitting);
     }
 }
 
@@ -105,6 +118,34 @@ fn fresh_keys(file: &[u8], table: &mut [u8], count: usize, random: &mut Random) 
         }
     }
     fresh
+}
+
+/// Makes every insert into a bucket that holds records overfull, and its split due.
+fn lower_capacity(file: &mut [u8]) {
+    file[CAPACITY] = 1;
+}
+
+/// Keys by which so many splits are done one after another.
+fn splitting_keys(file: &[u8], table: &mut [u8], count: usize, random: &mut Random) -> Vec<u64> {
+    let mut file = file.to_vec();
+    lower_capacity(&mut file);
+    let mut splitting = Vec::new();
+    while splitting.len() < count {
+        let key = random_key(random);
+        if splits(&file, key) && twin::search(&file, table, 0, key, &mut [0; 24]) == 1 {
+            let given = twin::insert_split(&mut file, table, 0, key, &PAYLOAD, THRESHOLD, &mut [0; 24]);
+            assert_eq!((given.reply, given.split), (0, 1));
+            splitting.push(key);
+        }
+    }
+    splitting
+}
+
+/// Whether a key's bucket holds a record and has room for another.
+fn splits(file: &[u8], key: u64) -> bool {
+    let header = Header::read(file).expect("the file is sound");
+    let used = twin::view(file, header.state.address(key).into()).length as usize;
+    (1..header.slots).contains(&(used / SLOT_LENGTH))
 }
 
 /// What one side does in the timed part; how many calls that were.
@@ -142,6 +183,27 @@ fn split(side: &Side, buffers: &mut Buffers, setting: &Setting) -> usize {
         assert_eq!((side.split)(&mut buffers.file).reply, 0);
     }
     setting.most / 2
+}
+
+/// Inserts keys with load control; each has the outcome.
+fn load_all(side: &Side, file: &mut [u8], table: &mut [u8], keys: &[u64], outcome: u32) -> usize {
+    let mut answer = [0; 24];
+    for &key in keys {
+        let given = (side.insert_split)(file, table, 0, key, &PAYLOAD, THRESHOLD, &mut answer);
+        assert_eq!((given.reply, given.split), (0, outcome));
+    }
+    keys.len()
+}
+
+fn load_insert(side: &Side, buffers: &mut Buffers, _: &Setting) -> usize {
+    let Buffers { file, table, fresh, .. } = buffers;
+    load_all(side, file, table, fresh, outcome::NOT_DUE)
+}
+
+fn load_split(side: &Side, buffers: &mut Buffers, _: &Setting) -> usize {
+    let Buffers { file, table, splitting, .. } = buffers;
+    lower_capacity(file);
+    load_all(side, file, table, splitting, outcome::DONE)
 }
 
 fn check(side: &Side, buffers: &mut Buffers, setting: &Setting) -> usize {
@@ -219,6 +281,8 @@ fn bench(setting: &Setting, long: &mut [u8]) {
         ("search miss", search_miss),
         ("insert", insert),
         ("split", split),
+        ("load insert", load_insert),
+        ("load split", load_split),
         ("check", check),
         ("scan", scan),
         ("scan old", scan_old),

@@ -63,6 +63,10 @@ pub last-one : (a : ℕ) → last a [] ≡ a
 unfolding last
 last-one a = refl
 
+pub last-next : (a b : ℕ) (rest : List ℕ) → last a (b ∷ rest) ≡ last b rest
+unfolding last
+last-next a b rest = refl
+
 module _ (N : ℕ) (file : Image) (C most a : ℕ) where
   pub route-kept : hash N (level N file a) C ≡ a → routeFrom N file C (suc most) a ≡ a ∷ []
   unfolding routeFrom following

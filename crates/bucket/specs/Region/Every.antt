@@ -7,7 +7,7 @@ use mathlib.Core.List.{List, [], _∷_, _++_}
 use mathlib.Core.Logic.{⊎-elim}
 use native.Mathlib.Omega.{arith}
 use Rattle.address.specs.Compare.{same}
-use Rattle.address.specs.Rules.Route.{Below}
+use Rattle.address.specs.Rules.Route.{Below, last, last-one, last-next}
 use Rattle.address.specs.Rules.Scan.{times, times-none, times-there}
 use Rattle.layout.specs.Bytes.Tests.{and-left, and-right}
 use Rattle.bucket.specs.Region.{every}
@@ -65,6 +65,11 @@ every-times test [] a all fails = times-none a
 every-times test (first ∷ xs) a all fails =
     times-there a first xs (λ e. true≢false (sym (every-first test first xs all) ∙ ap test (sym e) ∙ fails))
     ∙ every-times test xs a (every-rest test first xs all) fails
+
+-- so the last number of a route passes
+pub every-last : (test : ℕ → Bool) (a : ℕ) (xs : List ℕ) → every test (a ∷ xs) ≡ true → test (last a xs) ≡ true
+every-last test a [] all = ap test (last-one a) ∙ every-first test a [] all
+every-last test a (b ∷ xs) all = ap test (last-next a b xs) ∙ every-last test b xs (every-rest test a (b ∷ xs) all)
 
 -- numbers below a bound, each of which passes
 pub every-below : (test : ℕ → Bool) (most : ℕ) → ((a : ℕ) → a < most → test a ≡ true) → (xs : List ℕ)

@@ -12,18 +12,21 @@ use borrow.Author.Tests.{eqb-true, eqb-false}
 use lib.Dec.{eqb}
 use lib.ListN.{length}
 use Rattle.address.specs.Limits.{firstBuckets}
+use Rattle.address.specs.Load.{thresholdFits}
 use Rattle.address.specs.declared.Image.{Image}
 use Rattle.address.specs.Rules.{«at», Formed, NotAhead, address, buckets, imageAfter, route, forwards}
 use Rattle.address.specs.Rules.Adjust.{after-more}
 use Rattle.address.specs.Rules.Cases.{buckets-is}
 use Rattle.address.specs.Rules.Hash.{span-is, span-pos}
 use Rattle.address.specs.Rules.Route.{Delivered, delivered, forwards-is, forwards-short, route-right, first-right}
+use Rattle.layout.specs.Bytes.Tests.{and-left, and-right}
 use Rattle.layout.specs.Replies.{reply}
 use Rattle.client.specs.Table.{exists, imageOf, tableSound, tableRefusals, withImage}
 use Rattle.client.specs.Table.Keeping.{written-image, written-exists, other-image, table-kept}
 use Rattle.client.specs.Table.Laws.{join-ways, record-fits}
 use Rattle.file.specs.File.Judge.{existing}
-use Rattle.file.specs.File.{stateOf, bucketsOf, bucketSoundIn}
+use Rattle.file.specs.File.Keeping.{sound-split}
+use Rattle.file.specs.File.{stateOf, bucketsOf, bucketSoundIn, SplitOutcome}
 use Rattle.route.specs.Way.{early, ownOf}
 use Rattle.route.specs.Way.Keeping.{Passed, passed, formed, believes, near, written-behind, written-grows}
 use Rattle.route.specs.Way.Keeping.{route-sound}
@@ -32,8 +35,11 @@ use Rattle.route.specs.Way.Route.{way-route, cut-none}
 use Rattle.ride.specs.Call.{adjustedTable}
 use Rattle.ride.specs.Call.Keeping.{adjusted-image, adjusted-other, adjusted-exists, adjusted-kept}
 use Rattle.ride.specs.Call.Left.{search-ways, insert-ways}
-use Rattle.demands.specs.Run.{Memory, Call, Join, Insert, Search, Split, Scan, Check, View, Parent, Typed}
-use Rattle.demands.specs.Run.{AllTyped, Each, left, after, run, replied, answered, visited, VisitsOnce, Ready}
+use Rattle.load.specs.Load.Left.{load-ways}
+use Rattle.load.specs.Load.Ways.{room-on}
+use Rattle.demands.specs.Run.{Memory, Call, Join, Insert, InsertSplit, Search, Split, Scan, Check, View, Parent}
+use Rattle.demands.specs.Run.{Typed, AllTyped, Each, left, leftLoaded, after, run, replied, answered, visited}
+use Rattle.demands.specs.Run.{VisitsOnce, Ready}
 use Rattle.demands.specs.Run.{Sent, Nothing, Key}
 use Rattle.demands.specs.Run.{sentIf, sent, routeOf, Reached, believed, wrongFirst, forwardsOf, summed, NotJoined}
 use Rattle.scan.specs.Scan.Outcome.{scan-visits-once, scan-visits-only}
@@ -149,7 +155,7 @@ module _ (m : Memory) (ready : Ready m) where
       )
 
   table-step : (call : Call) → Behind call (m .file) (m .table) (after m call .table)
-  unfolding after left now answered
+  unfolding after left leftLoaded now answered
   table-step (Join client) = join-ways (λ o. Behind (Join client) (m .file) (m .table) (o .table)) (m .table) client
       (λ r e some. as-it-was (Join client) (m .table) refl) (join-behind client)
   table-step (Insert client key payload answer) = insert-ways (m .file) (m .table) client key payload answer
@@ -158,6 +164,14 @@ module _ (m : Memory) (ready : Ready m) where
       (λ w held. adjusted-behind client key (passed _ _ client (w .none)) _)
       (λ w free whole. adjusted-behind client key (passed _ _ client (w .none)) _)
       (λ w free room. adjusted-behind client key (passed _ _ client (w .none)) _)
+  table-step (InsertSplit client key payload t answer) = load-ways (m .file) (m .table) client key payload t answer
+      (λ o. Behind (InsertSplit client key payload t answer) (m .file) (m .table) (o .table))
+      (λ o r why. as-it-was _ (o .table) (r .table-left))
+      (λ w held. adjusted-behind client key (passed _ _ client (w .through .none)) _)
+      (λ w free whole. adjusted-behind client key (passed _ _ client (w .through .none)) _)
+      (λ w control is single. adjusted-behind client key (passed _ _ client (w .passing .through .none)) _)
+      (λ w due judged. adjusted-behind client key (passed _ _ client (w .passing .through .none)) _)
+      (λ w due bad o r. as-it-was _ (o .table) (r .table-left))
   table-step (Search client key answer) = search-ways (m .file) (m .table) client key answer
       (λ o. Behind (Search client key answer) (m .file) (m .table) (o .table))
       (λ o r. as-it-was _ (o .table) (r .table-left))
@@ -243,6 +257,8 @@ module _ (m : Memory) (ready : Ready m) where
   sent-by P nothing key-sent (Join client) = nothing
   sent-by P nothing key-sent (Insert client key payload answer) = sent-ways P _ client key (λ fits. key-sent client key)
       nothing
+  sent-by P nothing key-sent (InsertSplit client key payload t answer) = sent-ways P _ client key
+      (λ fits. key-sent client key) nothing
   sent-by P nothing key-sent (Search client key answer) = sent-ways P _ client key (λ fits. key-sent client key) nothing
   sent-by P nothing key-sent Split = nothing
   sent-by P nothing key-sent (Scan client lift visits matches) = nothing
@@ -291,6 +307,22 @@ module _ (m : Memory) (ready : Ready m) where
       (λ o. o .table ≡ adjustedTable (m .file) (m .table) client key)
       (λ o r. absurd (r .why (through (m .file) (m .table) (ready .file-sound) _ client key fits none)))
       (λ w held. refl) (λ w free whole. refl) (λ w free room. refl)
+
+  loading : (client key : ℕ) (payload : List ℕ) (t : ℕ) (answer : List ℕ)
+      → (eqb (length answer) 24 && eqb (length payload) 14 && thresholdFits t) ≡ true
+      → reply (early (m .file) (m .table) client) 0 ≡ 0
+      → after m (InsertSplit client key payload t answer) .table ≡ adjustedTable (m .file) (m .table) client key
+  unfolding after leftLoaded answered
+  loading client key payload t answer fits none = load-ways (m .file) (m .table) client key payload t answer
+      (λ o. o .table ≡ adjustedTable (m .file) (m .table) client key)
+      (λ o r why. absurd (why (record {
+        ranged = and-right (eqb (length answer) 24 && eqb (length payload) 14) _ fits;
+        through = through (m .file) (m .table) (ready .file-sound) _ client key (and-left _ (thresholdFits t) fits)
+            none;
+      })))
+      (λ w held. refl) (λ w free whole. refl) (λ w control is single. refl) (λ w due judged. refl)
+      (λ w due bad o r. absurd (bad (sym (ap (λ (s : SplitOutcome). s .answer)
+      (sound-split (m .file) (ready .file-sound) (room-on (m .file) key t due))))))
 
   searching : (client key : ℕ) (answer : List ℕ) → eqb (length answer) 24 ≡ true
       → reply (early (m .file) (m .table) client) 0 ≡ 0
@@ -341,6 +373,11 @@ module _ (m : Memory) (ready : Ready m) where
         other key
         (λ fits none. counted-key (Insert other key payload answer) old other key none
         (inserting other key payload answer fits none)) (counted-none _ old)
+    step-counts (InsertSplit other key payload t answer) old = sent-ways
+        (λ s. wrongFirst client m s + believed client m
+        ≤ believed client (after m (InsertSplit other key payload t answer))) _ other key
+        (λ fits none. counted-key (InsertSplit other key payload t answer) old other key none
+        (loading other key payload t answer fits none)) (counted-none _ old)
     step-counts (Search other key answer) old = sent-ways
         (λ s. wrongFirst client m s + believed client m ≤ believed client (after m (Search other key answer))) _ other
         key
@@ -406,6 +443,7 @@ pub scan-once : (m : Memory) (call : Call) → VisitsOnce m call
 unfolding VisitsOnce replied visited answered
 scan-once m (Join client) = tt
 scan-once m (Insert client key payload answer) = tt
+scan-once m (InsertSplit client key payload t answer) = tt
 scan-once m (Search client key answer) = tt
 scan-once m Split = tt
 scan-once m (Scan client lift visits matches) = λ done a. (

@@ -9,12 +9,11 @@ use mathlib.Core.Logic.{_⊎_, inl, inr, ⊎-elim, by-cases, _↔_}
 use native.Mathlib.Decide.{ℕ-discrete}
 use native.Mathlib.Numerals.{add-one}
 use native.Mathlib.Omega.{arith}
-use borrow.Author.Tests.{eqb-true, ltb-true, ltb-false, leb-false}
+use borrow.Author.Tests.{eqb-true, ltb-true}
 use lib.Dec.{eqb}
 use lib.ListN.{length}
 use Rattle.address.specs.Limits.{firstBuckets, mostSlots}
 use Rattle.address.specs.Rules.{address, buckets, keeps, splitting, newborn, grown}
-use Rattle.address.specs.Rules.Address.{address-exists}
 use Rattle.address.specs.Rules.Cases.{keeps-yes}
 use Rattle.address.specs.Rules.Grow.{newborn-next, grown-buckets, divided-cases}
 use Rattle.address.specs.Rules.Hash.{span-pos}
@@ -23,10 +22,11 @@ use Rattle.layout.specs.Bytes.Tests.{and-right}
 use Rattle.layout.specs.Replies.{reply}
 use Rattle.bucket.specs.Region.{Ride, Whole, countOf, rideAt, ridesOf, slotOf, kept}
 use Rattle.bucket.specs.Region.Held.{slot-held, held-passes, held-whole, held-more, found-held, absent-held}
-use Rattle.bucket.specs.Region.Keep.{slot-most, kept-member, member-kept}
-use Rattle.file.specs.File.{mostOf, slotsOf, stateOf, bucketsOf, regionOf, fileSound, withRide, divided}
+use Rattle.bucket.specs.Region.Keep.{kept-member, member-kept}
+use Rattle.file.specs.File.{mostOf, stateOf, bucketsOf, regionOf, fileSound, withRide, divided, split}
 use Rattle.file.specs.File.Judge.{Ranges, header-ranges, buckets-of, existing}
-use Rattle.file.specs.File.Keeping.{sound-header, sound-bucket, ride-kept, ride-held, others-held, ride-state}
+use Rattle.file.specs.File.Keeping.{sound-header, sound-bucket, Fitting, ride-kept, ride-held, others-held}
+use Rattle.file.specs.File.Keeping.{ride-buckets}
 use Rattle.file.specs.File.Keeping.{ride-bytes, count-held}
 use Rattle.file.specs.File.Keeping.{split-kept, split-state, split-bytes, split-old, split-new, split-other}
 use Rattle.file.specs.File.Split.{split-ways}
@@ -35,12 +35,15 @@ use Rattle.answer.specs.Answer.{block}
 use Rattle.answer.specs.Answer.Block.{payload-back}
 use Rattle.route.specs.Way.{early, ownOf, held, full}
 use Rattle.route.specs.Way.Keeping.{passed, route-sound}
-use Rattle.route.specs.Way.Own.{own-is, held-is, full-is}
+use Rattle.route.specs.Way.Own.{own-is, own-exists, held-is}
 use Rattle.ride.specs.Call.{Outcome, inserted, countThen, search}
 use Rattle.ride.specs.Call.Left.{Through, search-ways, insert-ways}
+use Rattle.ride.specs.Call.Placing.{own-fresh, own-room, fitting}
 use Rattle.ride.specs.Call.Replied.{count-is, inserted-is}
-use Rattle.demands.specs.Run.{Memory, Call, Join, Insert, Search, Split, Scan, Check, View, Parent, Typed}
-use Rattle.demands.specs.Run.{AllTyped, left, after, run, replied, answered, Holds, Accepts, Accepted, payloadIn}
+use Rattle.load.specs.Load.Left.{Accepting, load-ways}
+use Rattle.demands.specs.Run.{Memory, Call, Join, Insert, InsertSplit, Search, Split, Scan, Check, View, Parent}
+use Rattle.demands.specs.Run.{Typed, AllTyped, left, leftLoaded, after, run, replied, answered, Holds, Accepts}
+use Rattle.demands.specs.Run.{Accepted, payloadIn}
 use Rattle.demands.specs.Run.{Finds, Kept}
 
 -- what becomes of the rides of a sound file: it is sound, and holds what it held and some more
@@ -69,10 +72,6 @@ module _ (file : List ℕ) (bytes : Bytes file) (sound : fileSound file ≡ true
   -- ---- the key's own bucket
 
   module _ (key : ℕ) where
-    own-exists : ownOf file key < bucketsOf file
-    own-exists = rw (own-is file key (address firstBuckets (stateOf file) key) refl)
-        (omega (arith, existing file, address-exists firstBuckets (omega arith) (stateOf file) (seen .formed) key))
-
     region : List ℕ
     region = regionOf file (ownOf file key)
 
@@ -80,23 +79,10 @@ module _ (file : List ℕ) (bytes : Bytes file) (sound : fileSound file ≡ true
     unfolding region
     own-held h = ltb-true _ _ (held-is file key (ownOf file key) refl _ _ refl refl ∙ h)
 
-    own-fresh : held file key ≡ false → slotOf region key ≡ countOf region
-    unfolding region
-    own-fresh h = omega (
-      arith,
-      slot-most (regionOf file (ownOf file key)) key,
-      ltb-false (slotOf (regionOf file (ownOf file key)) key) (countOf (regionOf file (ownOf file key)))
-          (held-is file key (ownOf file key) refl _ _ refl refl ∙ h),
-    )
-
-    own-room : full file key ≡ false → countOf region < slotsOf file
-    unfolding region
-    own-room h = leb-false _ _ (full-is file key (ownOf file key) refl _ _ refl refl ∙ h)
-
   -- a ride is held in its own bucket alone
   in-own : (ride : Ride) → Holds file ride ↔ List·Memᴰ ride (ridesOf (region (ride .key)))
   unfolding Holds region
-  in-own ride = (there, λ m. (ownOf file (ride .key), own-exists (ride .key), m))
+  in-own ride = (there, λ m. (ownOf file (ride .key), own-exists file (sound-header file sound) (ride .key), m))
     where
       there : (a : ℕ) × (a < bucketsOf file) × List·Memᴰ ride (ridesOf (regionOf file a))
           → List·Memᴰ ride (ridesOf (regionOf file (ownOf file (ride .key))))
@@ -118,60 +104,50 @@ module _ (file : List ℕ) (bytes : Bytes file) (sound : fileSound file ≡ true
     a : ℕ
     a = ownOf file key
 
-    own : address firstBuckets (stateOf file) key ≡ a
-    unfolding a
-    own = sym (own-is file key (address firstBuckets (stateOf file) key) refl)
-
     is : withRide file a new ≡ inserted file key payload
     unfolding a new
     is = inserted-is file key (ownOf file key) refl payload _ refl
 
-    fresh : slotOf (regionOf file a) key ≡ countOf (regionOf file a)
-    unfolding a region
-    fresh = own-fresh key free
-
-    some : countOf (regionOf file a) < slotsOf file
-    unfolding a region
-    some = own-room key room
-
     exists : a < bucketsOf file
     unfolding a
-    exists = own-exists key
+    exists = own-exists file (sound-header file sound) key
+
+    fits : Fitting file new a
+    unfolding a new
+    fits = fitting file bytes (sound-header file sound) key payload whole
+        (sound-bucket file sound (ownOf file key) (own-exists file (sound-header file sound) key)) free room
 
     now : List ℕ
     now = withRide file a new
 
     same-buckets : bucketsOf now ≡ bucketsOf file
-    unfolding now new
-    same-buckets = existing now
-        ∙ ap (buckets firstBuckets) (ride-state file bytes sound new whole a own exists fresh some)
-        ∙ sym (existing file)
+    unfolding now
+    same-buckets = ride-buckets file new a fits
 
     here : ridesOf (regionOf now a) ≡ ridesOf (regionOf file a) ++ (new ∷ [])
-    unfolding now new
-    here = ride-held file bytes sound new whole a own exists fresh some
+    unfolding now
+    here = ride-held file new a fits
 
     -- the count that the answer block gives is what the bucket then holds, from 1 to 64
     pub count-told : (countThen file key ≡ countOf (regionOf (inserted file key payload) (ownOf file key)))
         × (1 ≤ countThen file key) × (countThen file key ≤ mostSlots)
-    unfolding a new
+    unfolding a
     count-told = (
       sym (count-is file key (ownOf file key) refl refl) ∙ add-one _
-          ∙ sym (count-held file bytes sound new whole a own exists fresh some)
+          ∙ sym (count-held file new a fits)
           ∙ ap (λ (f : List ℕ). countOf (regionOf f (ownOf file key))) is,
       omega (arith, count-is file key (ownOf file key) refl {n = countOf (regionOf file (ownOf file key))} refl),
       omega (
         arith,
         count-is file key (ownOf file key) refl {n = countOf (regionOf file (ownOf file key))} refl,
-        some,
+        own-room file key room,
         seen .figured .few-slots,
       ),
     )
 
     elsewhere : (b : ℕ) → b < bucketsOf file → (b ≡ a → ⊥) → regionOf now b ≡ regionOf file b
-    unfolding now new
-    elsewhere b l other = others-held file bytes sound new whole a own exists fresh some b (omega (arith, l, seen .few))
-        other
+    unfolding now
+    elsewhere b l other = others-held file new a fits b (omega (arith, l, seen .few)) other
 
     now-holds : (ride : Ride) → Holds now ride ↔ (Holds file ride ⊎ (ride ≡ new))
     unfolding Holds
@@ -215,8 +191,8 @@ module _ (file : List ℕ) (bytes : Bytes file) (sound : fileSound file ≡ true
         (λ ride. (_≡_ {A = ℕ} 0 0) × (ride ≡ record { key = key; payload = payload }))
     unfolding now new
     inserted-grown = subst (λ (f : List ℕ). Grown file f (λ ride. (_≡_ {A = ℕ} 0 0) × (ride ≡ new))) is (record {
-      bytes = ride-bytes file bytes sound new whole a own exists fresh some;
-      sound = ride-kept file bytes sound new whole a own exists fresh some;
+      bytes = ride-bytes file new a fits;
+      sound = ride-kept file new a fits sound;
       up = omega (arith, same-buckets);
       holds = λ ride. (
         λ h. ⊎-elim inl (λ e. inr (refl, e)) (now-holds ride .0 h),
@@ -329,6 +305,41 @@ module _ (file : List ℕ) (bytes : Bytes file) (sound : fileSound file ≡ true
       holds = λ ride. (λ h. inl (divided-holds ride .0 h), ⊎-elim (divided-holds ride .1) (λ none. absurd none));
     }
 
+  -- so a split, done or refused, leaves what is held
+  split-grown : Grown file (split file .file) (λ ride. ⊥)
+  split-grown = split-ways file (λ o. Grown file (o .file) (λ ride. ⊥))
+      (λ r a some. as-it-was file (λ ride. ⊥) refl (λ ride none. none))
+      (λ header more. divided-grown more)
+
+-- one after the other
+grown-both : {first second third : List ℕ} {one two : Ride → Type 0} → Grown first second one → Grown second third two
+    → Grown first third (λ ride. one ride ⊎ two ride)
+grown-both early late = record {
+  bytes = late .bytes;
+  sound = late .sound;
+  up = omega (arith, early .up, late .up);
+  holds = λ ride. (
+    λ h. ⊎-elim (λ before. ⊎-elim inl (λ now. inr (inl now)) (early .holds ride .0 before)) (λ later. inr (inr later))
+        (late .holds ride .0 h),
+    ⊎-elim (λ h. late .holds ride .1 (inl (early .holds ride .1 (inl h))))
+        (⊎-elim (λ now. late .holds ride .1 (inl (early .holds ride .1 (inr now))))
+        (λ later. late .holds ride .1 (inr later))),
+  );
+}
+
+-- with the same rides more
+grown-same : {before now : List ℕ} {one two : Ride → Type 0} → ((ride : Ride) → one ride ↔ two ride)
+    → Grown before now one → Grown before now two
+grown-same same grown = record {
+  bytes = grown .bytes;
+  sound = grown .sound;
+  up = grown .up;
+  holds = λ ride. (
+    λ h. ⊎-elim inl (λ more. inr (same ride .0 more)) (grown .holds ride .0 h),
+    ⊎-elim (λ h. grown .holds ride .1 (inl h)) (λ more. grown .holds ride .1 (inr (same ride .1 more))),
+  );
+}
+
 -- in a sound file a key call that passes 14 and 2 to 6 passes 7
 pub through : (file table : List ℕ) → fileSound file ≡ true → (fits : Bool) (client key : ℕ) → fits ≡ true
     → reply (early file table client) 0 ≡ 0 → Through fits file table client key
@@ -339,7 +350,7 @@ through file table sound fits client key fit none =
 
 pub step : (m : Memory) → Bytes (m .file) → fileSound (m .file) ≡ true → (call : Call) → Typed call
     → Grown (m .file) (after m call .file) (λ ride. Accepts m ride call)
-unfolding after left Typed Accepts replied answered
+unfolding after left leftLoaded Typed Accepts replied answered
 step m bytes sound (Join client) typed = as-it-was (m .file) bytes sound (m .file) (λ ride. ⊥) refl (λ ride none. none)
 step m bytes sound (Insert client key payload answer) typed = insert-ways (m .file) (m .table) client key payload answer
     (λ o. Grown (m .file) (o .file) (λ ride. (o .answer ≡ 0) × (ride ≡ record { key = key; payload = payload })))
@@ -352,12 +363,32 @@ step m bytes sound (Insert client key payload answer) typed = insert-ways (m .fi
       long = eqb-true _ 14 (and-right (eqb (length answer) 24) _ (w .fit));
       bytes = typed .1;
     }) free room)
+step m bytes sound (InsertSplit client key payload t answer) typed = load-ways (m .file) (m .table) client key payload t
+    answer
+    (λ o. Grown (m .file) (o .file) (λ ride. (o .answer ≡ 0) × (ride ≡ record { key = key; payload = payload })))
+    (λ o r why. as-it-was (m .file) bytes sound (o .file) _ (r .file-left) (λ ride h. omega (arith, r .some, h .0)))
+    (λ w there. as-it-was (m .file) bytes sound (m .file) _ refl (λ ride h. omega (arith, h .0)))
+    (λ w free whole. as-it-was (m .file) bytes sound (m .file) _ refl (λ ride h. omega (arith, h .0)))
+    (λ w control is single. one w)
+    (λ w due judged.
+    grown-same (λ ride. (⊎-elim (λ h. h) (λ none. absurd none), inl))
+    (grown-both (one w) (split-grown (inserted (m .file) key payload) (one w .bytes) (one w .sound))))
+    (λ w due bad o r. as-it-was (m .file) bytes sound (o .file) _ (r .file-left)
+    (λ ride h. omega (arith, r .some, h .0)))
+  where
+    one : Accepting (m .file) (m .table) client key payload t answer
+        → Grown (m .file) (inserted (m .file) key payload)
+        (λ ride. (_≡_ {A = ℕ} 0 0) × (ride ≡ record { key = key; payload = payload }))
+    one w = inserted-grown (m .file) bytes sound key payload
+        (record {
+          small = typed .0;
+          long = eqb-true _ 14 (and-right (eqb (length answer) 24) _ (w .passing .through .fit));
+          bytes = typed .1;
+        }) (w .free) (w .room)
 step m bytes sound (Search client key answer) typed = as-it-was (m .file) bytes sound _ (λ ride. ⊥)
     (search-ways (m .file) (m .table) client key answer (λ o. o .file ≡ m .file) (λ o r. r .file-left) (λ w there. refl)
     (λ w absent. refl)) (λ ride none. none)
-step m bytes sound Split typed = split-ways (m .file) (λ o. Grown (m .file) (o .file) (λ ride. ⊥))
-    (λ r a some. as-it-was (m .file) bytes sound (m .file) (λ ride. ⊥) refl (λ ride none. none))
-    (λ header more. divided-grown (m .file) bytes sound more)
+step m bytes sound Split typed = split-grown (m .file) bytes sound
 step m bytes sound (Scan client lift visits matches) typed = as-it-was (m .file) bytes sound (m .file) (λ ride. ⊥) refl
     (λ ride none. none)
 step m bytes sound Check typed = as-it-was (m .file) bytes sound (m .file) (λ ride. ⊥) refl (λ ride none. none)
@@ -371,19 +402,7 @@ unfolding run AllTyped Accepted
 whole-run m bytes sound [] typed = as-it-was (m .file) bytes sound (m .file) (λ ride. ⊥) refl (λ ride none. none)
 whole-run m bytes sound (call ∷ calls) typed =
     let one = step m bytes sound call (typed .0) in
-    let rest = whole-run (after m call) (one .bytes) (one .sound) calls (typed .1) in
-    record {
-      bytes = rest .bytes;
-      sound = rest .sound;
-      up = omega (arith, one .up, rest .up);
-      holds = λ ride. (
-        λ h. ⊎-elim (λ early. ⊎-elim inl (λ now. inr (inl now)) (one .holds ride .0 early)) (λ later. inr (inr later))
-            (rest .holds ride .0 h),
-        ⊎-elim (λ h. rest .holds ride .1 (inl (one .holds ride .1 (inl h))))
-            (⊎-elim (λ now. rest .holds ride .1 (inl (one .holds ride .1 (inr now))))
-            (λ later. rest .holds ride .1 (inr later))),
-      );
-    }
+    grown-both one (whole-run (after m call) (one .bytes) (one .sound) calls (typed .1))
 
 -- ---- what a search finds
 
@@ -393,8 +412,8 @@ payloadHeld file key = rideAt (regionOf file (ownOf file key)) (slotOf (regionOf
 
 module _ (file table : List ℕ) (bytes : Bytes file) (sound : fileSound file ≡ true) (client key : ℕ) where
   bucket : Shown file (ownOf file key)
-  bucket = shown file (seen file bytes sound) bytes (ownOf file key) (own-exists file bytes sound key)
-      (sound-bucket file sound (ownOf file key) (own-exists file bytes sound key))
+  bucket = shown file (seen file bytes sound) bytes (ownOf file key) (own-exists file (sound-header file sound) key)
+      (sound-bucket file sound (ownOf file key) (own-exists file (sound-header file sound) key))
 
   with-payload : List ℕ → Ride
   with-payload payload = record { key = key; payload = payload }
@@ -439,7 +458,7 @@ module _ (file table : List ℕ) (bytes : Bytes file) (sound : fileSound file �
   none-there : held file key ≡ false → (payload : List ℕ) → Holds file (with-payload payload) → ⊥
   unfolding region with-payload
   none-there absent payload h = absent-held (regionOf file (ownOf file key)) (with-payload payload)
-      (own-fresh file bytes sound key absent) (in-bucket payload .0 h)
+      (own-fresh file key absent) (in-bucket payload .0 h)
 
   finds : (answer : List ℕ) → search file table client key answer .answer ≤ 1
       → Finds key (search file table client key answer) (Holds file)

@@ -12,13 +12,17 @@ use Rattle.file.specs.File.Split.{split-reply, split-ways}
 use Rattle.ride.specs.Call.{Outcome, adjustedTable, search, insert}
 use Rattle.ride.specs.Call.Left.{Refused, search-reply, insert-reply, search-ways, insert-ways}
 use Rattle.scan.specs.Scan.Replied.{scan-reply}
-use Rattle.demands.specs.Run.{Memory, Call, Join, Insert, Search, Split, Scan, Check, View, Parent, left, after}
+use Rattle.load.specs.Load.{Loaded, insertSplit}
+use Rattle.load.specs.Load.Left.{Spared, load-ways, load-reply}
+use Rattle.demands.specs.Run.{Memory, Call, Join, Insert, InsertSplit, Search, Split, Scan, Check, View, Parent}
+use Rattle.demands.specs.Run.{left, leftLoaded, after}
 use Rattle.demands.specs.Run.{replied, answered, conditions}
 
 pub call-replies : (m : Memory) (call : Call) → replied m call ≡ reply (conditions m call) 0
 unfolding replied conditions answered
 call-replies m (Join client) = join-reply (m .table) client
 call-replies m (Insert client key payload answer) = insert-reply (m .file) (m .table) client key payload answer
+call-replies m (InsertSplit client key payload t answer) = load-reply (m .file) (m .table) client key payload t answer
 call-replies m (Search client key answer) = search-reply (m .file) (m .table) client key answer
 call-replies m Split = split-reply (m .file)
 call-replies m (Scan client lift visits matches) = scan-reply (m .file) (m .table) client lift visits matches
@@ -32,10 +36,14 @@ refused-left : (m : Memory) (fits : Bool) (client key : ℕ) (answer : List ℕ)
 unfolding left
 refused-left m fits client key answer o r = λ i. record { file = r .file-left i; table = r .table-left i }
 
+spared-left : (m : Memory) (answer : List ℕ) (o : Loaded) → Spared (m .file) (m .table) answer o → leftLoaded o ≡ m
+unfolding leftLoaded
+spared-left m answer o r = λ i. record { file = r .file-left i; table = r .table-left i }
+
 -- a refusal but 8 and 9 leaves file and table
 pub call-untouched : (m : Memory) (call : Call) → 1 < replied m call → (replied m call ≡ 8 → ⊥)
     → (replied m call ≡ 9 → ⊥) → after m call ≡ m
-unfolding replied after left answered
+unfolding replied after left leftLoaded answered
 call-untouched m (Join client) some eight nine = join-ways
     (λ o. 1 < o .answer → record { file = m .file; table = o .table } ≡ m) (m .table) client
     (λ r e not-zero h. refl) (λ e h. absurd (omega (arith, h))) some
@@ -46,6 +54,16 @@ call-untouched m (Insert client key payload answer) some eight nine = insert-way
     (λ w held h e n. absurd (e refl))
     (λ w free full h e n. absurd (n refl))
     (λ w free room h e n. absurd (omega (arith, h)))
+    some eight nine
+call-untouched m (InsertSplit client key payload t answer) some eight nine = load-ways (m .file) (m .table) client key
+    payload t answer
+    (λ o. 1 < o .answer → (o .answer ≡ 8 → ⊥) → (o .answer ≡ 9 → ⊥) → leftLoaded o ≡ m)
+    (λ o r why h e n. spared-left m answer o r)
+    (λ w held h e n. absurd (e refl))
+    (λ w free full h e n. absurd (n refl))
+    (λ w control is single h e n. absurd (omega (arith, h)))
+    (λ w due judged h e n. absurd (omega (arith, h)))
+    (λ w due bad o r h e n. spared-left m answer o r)
     some eight nine
 call-untouched m (Search client key answer) some eight nine = search-ways (m .file) (m .table) client key answer
     (λ o. 1 < o .answer → left o ≡ m)
@@ -73,6 +91,22 @@ insert-adjusted m client key payload answer = insert-ways (m .file) (m .table) c
     (λ w free full which. refl)
     (λ w free room which. absurd (⊎-elim (λ e. omega (arith, e)) (λ e. omega (arith, e)) which))
 
+pub load-adjusted : (m : Memory) (client key : ℕ) (payload : List ℕ) (t : ℕ) (answer : List ℕ)
+    → (replied m (InsertSplit client key payload t answer) ≡ 8)
+    ⊎ (replied m (InsertSplit client key payload t answer) ≡ 9)
+    → after m (InsertSplit client key payload t answer)
+    ≡ record { file = m .file; table = adjustedTable (m .file) (m .table) client key }
+unfolding replied after leftLoaded answered
+load-adjusted m client key payload t answer = load-ways (m .file) (m .table) client key payload t answer
+    (λ o. (o .answer ≡ 8) ⊎ (o .answer ≡ 9)
+    → leftLoaded o ≡ record { file = m .file; table = adjustedTable (m .file) (m .table) client key })
+    (λ o r why which. absurd (⊎-elim (r .before .0) (r .before .1) which))
+    (λ w held which. refl)
+    (λ w free full which. refl)
+    (λ w control is single which. absurd (⊎-elim (λ e. omega (arith, e)) (λ e. omega (arith, e)) which))
+    (λ w due judged which. absurd (⊎-elim (λ e. omega (arith, e)) (λ e. omega (arith, e)) which))
+    (λ w due bad o r which. absurd (⊎-elim (r .before .0) (r .before .1) which))
+
 -- 14 touches nothing: not the answer block either
 pub insert-untouched : (m : Memory) (client key : ℕ) (payload answer : List ℕ)
     → replied m (Insert client key payload answer) ≡ 14
@@ -82,6 +116,16 @@ insert-untouched m client key payload answer = insert-ways (m .file) (m .table) 
     (λ o. o .answer ≡ 14 → o .block ≡ answer)
     (λ o r. r .block-left) (λ w held e. absurd (omega (arith, e))) (λ w free full e. absurd (omega (arith, e)))
     (λ w free room e. absurd (omega (arith, e)))
+
+pub load-untouched : (m : Memory) (client key : ℕ) (payload : List ℕ) (t : ℕ) (answer : List ℕ)
+    → replied m (InsertSplit client key payload t answer) ≡ 14
+    → insertSplit (m .file) (m .table) client key payload t answer .block ≡ answer
+unfolding replied answered
+load-untouched m client key payload t answer = load-ways (m .file) (m .table) client key payload t answer
+    (λ o. o .answer ≡ 14 → o .block ≡ answer)
+    (λ o r why. r .block-left) (λ w held e. absurd (omega (arith, e))) (λ w free full e. absurd (omega (arith, e)))
+    (λ w control is single e. absurd (omega (arith, e))) (λ w due judged e. absurd (omega (arith, e)))
+    (λ w due bad o r. r .block-left)
 
 pub search-untouched : (m : Memory) (client key : ℕ) (answer : List ℕ) → replied m (Search client key answer) ≡ 14
     → search (m .file) (m .table) client key answer .block ≡ answer

@@ -1,6 +1,6 @@
 -- What the demands shut out: a library that refuses everything, one that invents a route or a forward count, and one
 -- that stores nothing.
-use Prim.Native.Nat.{ℕ, _≤_, _<_}
+use Prim.Native.Nat.{ℕ, _≤_}
 use mathlib.Core.Path.{_≡_, refl, sym, ap, _∙_}
 use mathlib.Core.Bool.{true, _&&_}
 use mathlib.Core.List.{List, _∷_}
@@ -11,19 +11,16 @@ use lib.Dec.{eqb}
 use lib.ListN.{length}
 use Rattle.address.specs.Compare.{below}
 use Rattle.address.specs.Limits.{firstBuckets}
-use Rattle.address.specs.Rules.{NotAhead, splitting, newborn, forwards}
-use Rattle.address.specs.Rules.Grow.{newborn-next}
-use Rattle.address.specs.Rules.Hash.{span-pos}
-use Rattle.layout.specs.Bytes.{Bytes, allZero}
+use Rattle.address.specs.Rules.{NotAhead, forwards}
+use Rattle.layout.specs.Bytes.{Bytes}
 use Rattle.layout.specs.Bytes.Tests.{and-both}
 use Rattle.layout.specs.Replies.{reply}
 use Rattle.client.specs.Table.{lengthSound, exists, imageOf, recordSound}
 use Rattle.client.specs.Table.Keeping.{sound-length, sound-record, client-passes}
-use Rattle.file.specs.File.{SplitOutcome, mostOf, stateOf, bucketsOf, headerSound, regionOf, fileSound}
-use Rattle.file.specs.File.Judge.{Ranges, header-ranges, buckets-of, existing}
-use Rattle.file.specs.File.Keeping.{sound-header, sound-region, sound-bucket}
-use Rattle.file.specs.File.Region.{region-past}
-use Rattle.file.specs.File.Split.{split-whole, split-done}
+use Rattle.file.specs.File.{SplitOutcome, mostOf, stateOf, bucketsOf, fileSound}
+use Rattle.file.specs.File.Judge.{existing}
+use Rattle.file.specs.File.Keeping.{sound-header, sound-split}
+use Rattle.file.specs.File.Split.{split-whole}
 use Rattle.answer.specs.Answer.{block, noPayload, forwardsIn}
 use Rattle.answer.specs.Answer.Block.{none-long, forwards-block}
 use Rattle.route.specs.Way.{early, wayOf}
@@ -42,27 +39,9 @@ module _ (m : Memory) (sound : fileSound (m .file) ≡ true) where
   pub split-answers : (replied m Split ≡ 0) ⊎ (replied m Split ≡ 10)
   unfolding replied answered
   split-answers = ⊎-elim
-      (λ l. inl (sym (ap (λ (o : SplitOutcome). o .answer) (split-done (m .file) header l _ _ refl refl
-      (sound-bucket (m .file) sound (splitting (stateOf (m .file)))
-      (omega
-      (arith, buckets-of (m .file), seen .formed, span-pos firstBuckets (omega arith) (stateOf (m .file) .level))))
-      (clean l) _ refl))))
-      (λ l. inr (sym (ap (λ (o : SplitOutcome). o .answer) (split-whole (m .file) header l))))
+      (λ l. inl (sym (ap (λ (o : SplitOutcome). o .answer) (sound-split (m .file) sound l))))
+      (λ l. inr (sym (ap (λ (o : SplitOutcome). o .answer) (split-whole (m .file) (sound-header (m .file) sound) l))))
       (below (bucketsOf (m .file)) (mostOf (m .file)))
-    where
-      header : headerSound (m .file) ≡ true
-      header = sound-header (m .file) sound
-
-      seen : Ranges (m .file)
-      seen = header-ranges (m .file) header
-
-      next : newborn firstBuckets (stateOf (m .file)) ≡ bucketsOf (m .file)
-      next = newborn-next firstBuckets (omega arith) (stateOf (m .file)) (seen .formed) ∙ sym (existing (m .file))
-
-      clean : bucketsOf (m .file) < mostOf (m .file)
-          → allZero (regionOf (m .file) (newborn firstBuckets (stateOf (m .file)))) ≡ true
-      clean l = sym (region-past (m .file) (newborn firstBuckets (stateOf (m .file))) (omega (arith, next)))
-          ∙ sound-region (m .file) sound (newborn firstBuckets (stateOf (m .file))) (omega (arith, l, next))
 
   -- a client whose own record is sound and who is not ahead, in a table of a sound length
   module _ (client : ℕ) (long : lengthSound (m .table) ≡ true) (there : exists (m .table) client ≡ true)

@@ -1,7 +1,7 @@
 -- What insert and split keep: a fresh ride in its own bucket leaves a sound file sound with just that ride more,
 -- and a split leaves a sound file sound, with the rides of one bucket in two. Every region not written stays.
 use Prim.Native.Nat.{ℕ, suc, _≤_, _<_}
-use mathlib.Core.Path.{_≡_, sym, ap, ap₂, _∙_}
+use mathlib.Core.Path.{_≡_, refl, sym, ap, ap₂, _∙_}
 use mathlib.Core.Bool.{true, cond, _&&_}
 use mathlib.Core.List.{List, [], _∷_, _++_}
 use mathlib.Core.Logic.{by-cases}
@@ -26,13 +26,15 @@ use Rattle.bucket.specs.Region.Encode.{length-encode}
 use Rattle.bucket.specs.Region.Held.{encode-bytes}
 use Rattle.bucket.specs.Region.Keep.{bucket-placed, bucket-divided, bucket-alike}
 use Rattle.file.specs.File.{mostOf, slotsOf, stateOf, bucketsOf, headerSound, regionOf, bucketSoundIn}
-use Rattle.file.specs.File.{regionSound, fileSound, withRegion, withRide, withState, staying, divided}
-use Rattle.file.specs.File.Judge.{Ranges, header-ranges, buckets-of, state-back, state-small}
+use Rattle.file.specs.File.{regionSound, fileSound, withRegion, withRide, withState, staying, divided, split}
+use Rattle.file.specs.declared.Header.{Header}
+use Rattle.file.specs.File.Judge.{Ranges, Known, header-ranges, buckets-of, existing, state-back, state-small}
 use Rattle.file.specs.File.Region.{region-bucket, region-past}
 use Rattle.file.specs.File.Write.{Shown, shown, with-slots, with-state, with-sound, with-most, with-here}
+use Rattle.file.specs.File.Write.{with-capacity}
 use Rattle.file.specs.File.Write.{with-other, with-bytes, state-slots, state-most, state-back-again, state-header}
 use Rattle.file.specs.File.Write.{state-region, state-bytes}
-use Rattle.file.specs.File.Split.{moves}
+use Rattle.file.specs.File.Split.{moves, split-done}
 
 -- a sound file's header and regions
 pub sound-header : (file : List ℕ) → fileSound file ≡ true → headerSound file ≡ true
@@ -47,6 +49,26 @@ sound-region file h a l = all-at (regionSound file) (mostOf file) a (and-right (
 pub sound-bucket : (file : List ℕ) → fileSound file ≡ true → (a : ℕ) → a < bucketsOf file → bucketSoundIn file a ≡ true
 sound-bucket file h a l = sym (region-bucket file a l)
     ∙ sound-region file h a (omega (arith, header-ranges file (sound-header file h) .few))
+
+-- and a split is done where there is room for one more
+pub sound-split : (file : List ℕ) → fileSound file ≡ true → bucketsOf file < mostOf file → record {
+  answer = 0;
+  old = splitting (stateOf file);
+  new = newborn firstBuckets (stateOf file);
+  file = divided file;
+} ≡ split file
+sound-split file sound more = split-done file (sound-header file sound) more _ _ refl refl
+    (sound-bucket file sound (splitting (stateOf file))
+    (omega (arith, buckets-of file, seen .formed, span-pos firstBuckets (omega arith) (stateOf file .level))))
+    (sym (region-past file (newborn firstBuckets (stateOf file)) (omega (arith, next)))
+    ∙ sound-region file sound (newborn firstBuckets (stateOf file)) (omega (arith, more, next)))
+    _ refl
+  where
+    seen : Ranges file
+    seen = header-ranges file (sound-header file sound)
+
+    next : newborn firstBuckets (stateOf file) ≡ bucketsOf file
+    next = newborn-next firstBuckets (omega arith) (stateOf file) (seen .formed) ∙ sym (existing file)
 
 -- a region is judged by the state, the slots and its own bytes
 judged-alike : (file other : List ℕ) (a : ℕ) → stateOf other ≡ stateOf file → slotsOf other ≡ slotsOf file
@@ -69,15 +91,23 @@ judged-bucket other a S s region es eS er exists h =
     ∙ ap (λ (r : List ℕ). cond (ltb a (buckets firstBuckets s)) (bucketSound firstBuckets s S a r) (allZero r)) er
     ∙ rw (lt-ltb a (buckets firstBuckets s) exists) h
 
-module _ (file : List ℕ) (bytes : Bytes file) (sound : fileSound file ≡ true) (ride : Ride) (whole : Whole ride) (a : ℕ)
-    (own : address firstBuckets (stateOf file) (ride .key) ≡ a)
-    (exists : a < bucketsOf file) (fresh : slotOf (regionOf file a) (ride .key) ≡ countOf (regionOf file a))
-    (room : countOf (regionOf file a) < slotsOf file) where
+-- a ride that a bucket can take: it is the ride's own and sound, the key is not held there, and a slot is free
+pub record Fitting (file : List ℕ) (ride : Ride) (a : ℕ) : Type 0 where
+  pub bytes : Bytes file
+  pub header : headerSound file ≡ true
+  pub whole : Whole ride
+  pub own : address firstBuckets (stateOf file) (ride .key) ≡ a
+  pub exists : a < bucketsOf file
+  pub good : bucketSoundIn file a ≡ true
+  pub fresh : slotOf (regionOf file a) (ride .key) ≡ countOf (regionOf file a)
+  pub room : countOf (regionOf file a) < slotsOf file
+
+module _ (file : List ℕ) (ride : Ride) (a : ℕ) (fits : Fitting file ride a) where
   seen : Ranges file
-  seen = header-ranges file (sound-header file sound)
+  seen = header-ranges file (fits .header)
 
   bucket : Shown file a
-  bucket = shown file seen bytes a exists (sound-bucket file sound a exists)
+  bucket = shown file seen (fits .bytes) a (fits .exists) (fits .good)
 
   there : a < mostOf file
   there = bucket .there
@@ -87,11 +117,11 @@ module _ (file : List ℕ) (bytes : Bytes file) (sound : fileSound file ≡ true
 
   all : AllWhole rides
   unfolding rides
-  all = whole-append (ridesOf (regionOf file a)) ride (bucket .whole) whole
+  all = whole-append (ridesOf (regionOf file a)) ride (bucket .whole) (fits .whole)
 
   few : length rides ≤ slotsOf file
   unfolding rides
-  few = omega (arith, length-append (ridesOf (regionOf file a)) (ride ∷ []), bucket .count)
+  few = omega (arith, length-append (ridesOf (regionOf file a)) (ride ∷ []), bucket .count, fits .room)
 
   region : List ℕ
   region = encode (slotsOf file) (level firstBuckets (stateOf file) a) rides
@@ -104,31 +134,63 @@ module _ (file : List ℕ) (bytes : Bytes file) (sound : fileSound file ≡ true
   unfolding region rides bucketSoundIn
   here-sound = bucket-placed firstBuckets (stateOf file) (slotsOf file) a (regionOf file a) (bucket .bytes)
       (bucket .long) (omega (arith, seen .figured .few-slots))
-      (sound-bucket file sound a exists) ride whole own fresh room
+      (fits .good) ride (fits .whole) (fits .own) (fits .fresh) (fits .room)
 
   within-state : a < buckets firstBuckets (stateOf file)
   unfolding bucketsOf
-  within-state = exists
+  within-state = fits .exists
 
-  each : (b : ℕ) → b < mostOf (withRegion file a region) → regionSound (withRegion file a region) b ≡ true
-  each b l = by-cases (ℕ-discrete b a)
-      (λ e. ap (regionSound (withRegion file a region)) e ∙ here)
+  -- every region is judged as before
+  pub ride-judged : (b : ℕ) → b < mostOf file → regionSound (withRide file a ride) b ≡ regionSound file b
+  unfolding withRide region rides
+  ride-judged b within = by-cases (ℕ-discrete b a)
+      (λ e. ap (regionSound (withRegion file a region)) e ∙ here ∙ sym (ap (regionSound file) e ∙ was))
       (λ other. judged-alike file (withRegion file a region) b (with-state file seen a there region long)
       (with-slots file seen a there region long)
-      (with-other file seen a there region long b within other) ∙ sound-region file sound b within)
+      (with-other file seen a there region long b within other))
     where
-      within : b < mostOf file
-      within = omega (arith, l, with-most file seen a there region long)
-
       here : regionSound (withRegion file a region) a ≡ true
       here = judged-bucket (withRegion file a region) a (slotsOf file) (stateOf file) region
           (with-state file seen a there region long) (with-slots file seen a there region long)
           (with-here file seen a there region long) within-state here-sound
 
-  pub ride-kept : fileSound (withRide file a ride) ≡ true
-  unfolding fileSound withRide region rides
-  ride-kept = and-both _ _ (with-sound file seen a there region long ∙ sound-header file sound)
-      (all-of (regionSound (withRegion file a region)) (mostOf (withRegion file a region)) each)
+      was : regionSound file a ≡ true
+      was = region-bucket file a (fits .exists) ∙ fits .good
+
+  -- the header is sound as before, with the same figures
+  pub ride-header : headerSound (withRide file a ride) ≡ true
+  unfolding withRide region rides
+  ride-header = with-sound file seen a there region long ∙ fits .header
+
+  pub ride-state : stateOf (withRide file a ride) ≡ stateOf file
+  unfolding withRide region rides
+  ride-state = with-state file seen a there region long
+
+  pub ride-most : mostOf (withRide file a ride) ≡ mostOf file
+  unfolding withRide region rides
+  ride-most = with-most file seen a there region long
+
+  pub ride-buckets : bucketsOf (withRide file a ride) ≡ bucketsOf file
+  ride-buckets = existing (withRide file a ride) ∙ ap (buckets firstBuckets) ride-state ∙ sym (existing file)
+
+  pub ride-known : (header : Header) → Known file header → Known (withRide file a ride) header
+  unfolding withRide region rides
+  ride-known header known = record {
+    sound = ride-header;
+    state = known .state ∙ sym ride-state;
+    capacity = known .capacity ∙ sym (with-capacity file seen a there region long);
+    slots = known .slots ∙ sym (with-slots file seen a there region long);
+    most = known .most ∙ sym ride-most;
+    ranges = header-ranges (withRide file a ride) ride-header;
+    room = known .room;
+  }
+
+  -- so a sound file stays sound
+  pub ride-kept : fileSound file ≡ true → fileSound (withRide file a ride) ≡ true
+  unfolding fileSound
+  ride-kept sound = and-both _ _ ride-header
+      (all-of (regionSound (withRide file a ride)) (mostOf (withRide file a ride))
+      (λ b l. ride-judged b (omega (arith, l, ride-most)) ∙ sound-region file sound b (omega (arith, l, ride-most))))
 
   -- what is held then: what was, and the ride behind it; every other region as it was
   pub ride-held : ridesOf (regionOf (withRide file a ride) a) ≡ ridesOf (regionOf file a) ++ (ride ∷ [])
@@ -149,16 +211,12 @@ module _ (file : List ℕ) (bytes : Bytes file) (sound : fileSound file ≡ true
   unfolding withRide region rides
   others-held b l other = with-other file seen a there region long b l other
 
-  -- the state is the same, and bytes stay bytes
-  pub ride-state : stateOf (withRide file a ride) ≡ stateOf file
-  unfolding withRide region rides
-  ride-state = with-state file seen a there region long
-
+  -- bytes stay bytes
   pub ride-bytes : Bytes (withRide file a ride)
   unfolding withRide region rides
   ride-bytes = with-bytes file seen a there region long
       (encode-bytes (slotsOf file) (level firstBuckets (stateOf file) a) rides
-      (omega (arith, level-high firstBuckets (stateOf file) a, seen .low)) all) bytes
+      (omega (arith, level-high firstBuckets (stateOf file) a, seen .low)) all) (fits .bytes)
 
 -- ---- split
 

@@ -39,6 +39,9 @@ module _ (file other : List ℕ) (long : length other ≡ length file)
   pub header-slots : slotsOf other ≡ slotsOf file
   header-slots = same 8 (omega arith)
 
+  pub header-capacity : capacityOf other ≡ capacityOf file
+  header-capacity = same 3 (omega arith)
+
   pub header-most : mostOf other ≡ mostOf file
   header-most = number 6 (omega arith)
 
@@ -68,7 +71,7 @@ module _ (file other : List ℕ) (long : length other ≡ length file)
       figures = λ i. record {
         sound = true;
         state = header-state i;
-        capacity = same 3 (omega arith) i;
+        capacity = header-capacity i;
         slots = header-slots i;
         most = header-most i;
       }
@@ -131,6 +134,9 @@ module _ (file : List ℕ) (seen : Ranges file) (a : ℕ) (there : a < mostOf fi
 
   pub with-most : mostOf (withRegion file a region) ≡ mostOf file
   with-most = header-most file (withRegion file a region) with-length with-header
+
+  pub with-capacity : capacityOf (withRegion file a region) ≡ capacityOf file
+  with-capacity = header-capacity file (withRegion file a region) with-length with-header
 
   pub with-bytes : Bytes region → Bytes file → Bytes (withRegion file a region)
   unfolding withRegion

@@ -1,6 +1,9 @@
 //! One call, the buffers lent to it, and the two sides that answer it.
 
+use twin::file::Header;
+use twin::load::outcome;
 use twin::sides::Side;
+use twin::{reply, NONE};
 
 #[derive(Clone, Copy, Debug)]
 pub enum Call {
@@ -9,6 +12,7 @@ pub enum Call {
     Insert { client: u64, key: u64 },
     Search { client: u64, key: u64 },
     Split,
+    InsertSplit { client: u64, key: u64, threshold: u64 },
     Check,
     Scan { client: u64, lift: u32 },
     View { bucket: u64 },
@@ -16,25 +20,90 @@ pub enum Call {
     Forwards,
 }
 
-/// A call's name, the kind of its answers, and all the replies it can give.
+/// A call's name, and all the ways in which it can end: its replies, and words where a reply does not tell enough.
 pub struct Kind {
     pub name: &'static str,
-    pub replies: &'static [usize],
+    pub endings: &'static [&'static str],
 }
 
-pub const KINDS: [Kind; 10] = [
-    Kind { name: "create", replies: &[0, 13] },
-    Kind { name: "join", replies: &[0, 2, 3] },
-    Kind { name: "insert", replies: &[0, 2, 3, 4, 5, 6, 7, 8, 9, 14] },
-    Kind { name: "search", replies: &[0, 1, 2, 3, 4, 5, 6, 7, 14] },
-    Kind { name: "split", replies: &[0, 5, 7, 10] },
-    Kind { name: "check", replies: &[0, 5, 7] },
-    Kind { name: "scan", replies: &[0, 2, 3, 4, 5, 6, 7, 11, 12] },
-    // For these three: 0 where the answer is empty or none, otherwise 1.
-    Kind { name: "view", replies: &[0, 1] },
-    Kind { name: "parent", replies: &[0, 1] },
-    Kind { name: "forwards", replies: &[0, 1] },
+pub const KINDS: [Kind; 11] = [
+    Kind { name: "create", endings: &["0", "13"] },
+    Kind { name: "join", endings: &["0", "2", "3"] },
+    Kind { name: "insert", endings: &["0", "2", "3", "4", "5", "6", "7", "8", "9", "14"] },
+    Kind { name: "search", endings: &["0", "1", "2", "3", "4", "5", "6", "7", "14"] },
+    Kind { name: "split", endings: &["0", "5", "7", "10"] },
+    Kind {
+        name: "insert_split",
+        endings: &[
+            "0 not overfull",
+            "0 overfull, not due",
+            "0 its own bucket split",
+            "0 another bucket split",
+            "0 no room",
+            "2",
+            "3",
+            "4",
+            "5",
+            "6",
+            "7 on the route",
+            "7 of bucket n",
+            "7 of the new region",
+            "8",
+            "9",
+            "14",
+            "15",
+        ],
+    },
+    Kind { name: "check", endings: &["0", "5", "7"] },
+    Kind { name: "scan", endings: &["0", "2", "3", "4", "5", "6", "7", "11", "12"] },
+    Kind { name: "view", endings: &["empty", "some"] },
+    Kind { name: "parent", endings: &["none", "some"] },
+    Kind { name: "forwards", endings: &["none", "some"] },
 ];
+
+fn or_some(empty: bool, word: &str) -> String {
+    if empty { word } else { "some" }.to_string()
+}
+
+/// How an insert with load control ended, by what it returned and what it left.
+fn load_ending([reply, split, old_bucket, _]: Returned, after: &Lent) -> String {
+    let header = || Header::read(&after.file).expect("with this reply the header is sound");
+    match reply as u8 {
+        reply::DONE => {
+            let overfull = u32::from(after.answer[8]) > header().capacity;
+            let own = old_bucket == last_of_route(&after.answer);
+            accepted_ending(split as u32, overfull, own).to_string()
+        }
+        reply::UNSOUND => unsound_ending(old_bucket, header().state.pointer.into()).to_string(),
+        _ => reply.to_string(),
+    }
+}
+
+fn accepted_ending(split: u32, overfull: bool, own: bool) -> &'static str {
+    match split {
+        outcome::NO_ROOM => "0 no room",
+        outcome::DONE if own => "0 its own bucket split",
+        outcome::DONE => "0 another bucket split",
+        _ if overfull => "0 overfull, not due",
+        _ => "0 not overfull",
+    }
+}
+
+fn unsound_ending(told: u64, pointer: u64) -> &'static str {
+    if told == u64::from(NONE) {
+        "7 on the route"
+    } else if told == pointer {
+        "7 of bucket n"
+    } else {
+        "7 of the new region"
+    }
+}
+
+/// The last bucket of an answer block's route.
+fn last_of_route(answer: &[u8]) -> u64 {
+    let last = 2 * usize::from(answer[1]);
+    u64::from(u16::from_le_bytes([answer[last], answer[last + 1]]))
+}
 
 impl Call {
     /// The call's place among the kinds.
@@ -45,21 +114,23 @@ impl Call {
             Call::Insert { .. } => 2,
             Call::Search { .. } => 3,
             Call::Split => 4,
-            Call::Check => 5,
-            Call::Scan { .. } => 6,
-            Call::View { .. } => 7,
-            Call::Parent { .. } => 8,
-            Call::Forwards => 9,
+            Call::InsertSplit { .. } => 5,
+            Call::Check => 6,
+            Call::Scan { .. } => 7,
+            Call::View { .. } => 8,
+            Call::Parent { .. } => 9,
+            Call::Forwards => 10,
         }
     }
 
-    /// What is counted of an answer: the reply, or whether there was something.
-    pub fn counted(&self, returned: &Returned) -> usize {
+    /// How the call ended, in the words of its kind.
+    pub fn ending(&self, returned: Returned, after: &Lent) -> String {
         match self {
-            Call::View { .. } => usize::from(returned[1] != 0),
-            Call::Parent { .. } => usize::from(returned[0] != 65_535),
-            Call::Forwards => usize::from(returned[0] != 0),
-            _ => returned[0] as usize,
+            Call::InsertSplit { .. } => load_ending(returned, after),
+            Call::View { .. } => or_some(returned[1] == 0, "empty"),
+            Call::Parent { .. } => or_some(returned[0] == u64::from(NONE), "none"),
+            Call::Forwards => or_some(returned[0] == 0, "none"),
+            _ => returned[0].to_string(),
         }
     }
 
@@ -67,6 +138,7 @@ impl Call {
         match *self {
             Call::Join { client }
             | Call::Insert { client, .. }
+            | Call::InsertSplit { client, .. }
             | Call::Search { client, .. }
             | Call::Scan { client, .. } => Some(client),
             _ => None,
@@ -76,6 +148,7 @@ impl Call {
     pub fn set_client(&mut self, number: u64) {
         if let Call::Join { client }
         | Call::Insert { client, .. }
+        | Call::InsertSplit { client, .. }
         | Call::Search { client, .. }
         | Call::Scan { client, .. } = self
         {
@@ -143,6 +216,10 @@ pub fn perform(side: &Side, call: &Call, lent: &mut Lent) -> Returned {
         Call::Split => {
             let given = (side.split)(file);
             [given.reply.into(), given.old_bucket.into(), given.new_bucket.into(), 0]
+        }
+        Call::InsertSplit { client, key, threshold } => {
+            let given = (side.insert_split)(file, table, client, key, payload, threshold, answer);
+            [given.reply.into(), given.split.into(), given.old_bucket.into(), given.new_bucket.into()]
         }
         Call::Check => {
             let given = (side.check)(file);

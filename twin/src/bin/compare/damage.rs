@@ -1,5 +1,5 @@
 //! Damage to a case's file, table, blocks, lists and figures, in each way that
-//! a sentence of the document names.
+//! a sentence of the documents names.
 
 use crate::call::{Call, Lent};
 use crate::world::{record_bytes, state_of, Shape, HEADER_LENGTH, HEAD_LENGTH, SLOT_LENGTH};
@@ -39,6 +39,18 @@ fn aims(call: &Call) -> &'static [(usize, Aim)] {
             (1, Aim::FileLength),
             (7, Aim::Bucket),
             (1, Aim::PastRegion),
+        ],
+        Call::InsertSplit { .. } => &[
+            (1, Aim::Block),
+            (1, Aim::TableLength),
+            (1, Aim::ClientNumber),
+            (3, Aim::ClientRecord),
+            (1, Aim::OtherRecord),
+            (2, Aim::HeaderByte),
+            (1, Aim::OddFigures),
+            (1, Aim::FileLength),
+            (10, Aim::Bucket),
+            (5, Aim::PastRegion),
         ],
         Call::Scan { .. } => &[
             (4, Aim::Lists),
@@ -315,11 +327,14 @@ fn needed_bucket(call: &Call, lent: &mut Lent, header: &Header, random: &mut Ran
     let buckets = header.state.bucket_count();
     let any = random.below(buckets as usize) as u32;
     match *call {
-        Call::Insert { client, key } | Call::Search { client, key } => match random.below(6) {
-            0 => any,
-            1 | 2 => first_bucket(client, key, &mut lent.table).filter(|&bucket| bucket < buckets).unwrap_or(any),
-            _ => header.state.address(key),
-        },
+        Call::InsertSplit { .. } if random.chance(1, 2) => header.state.pointer,
+        Call::Insert { client, key } | Call::InsertSplit { client, key, .. } | Call::Search { client, key } => {
+            match random.below(6) {
+                0 => any,
+                1 | 2 => first_bucket(client, key, &mut lent.table).filter(|&bucket| bucket < buckets).unwrap_or(any),
+                _ => header.state.address(key),
+            }
+        }
         Call::Split if random.chance(5, 6) => header.state.pointer,
         Call::View { bucket } if bucket < buckets.into() && random.chance(5, 6) => bucket as u32,
         _ => any,
@@ -447,7 +462,7 @@ fn damage_past_region(call: &Call, lent: &mut Lent, random: &mut Random) -> usiz
     let newborn = header.region_start(buckets);
     let region_end = header.region_start(buckets + 1);
     let aimed_end = match call {
-        Call::Split if random.chance(3, 4) => region_end,
+        Call::Split | Call::InsertSplit { .. } if random.chance(3, 4) => region_end,
         _ => lent.file.len(),
     };
     match random.below(6) {

@@ -9,6 +9,7 @@ mod world;
 use call::{perform, Call, Lent, Returned, KINDS};
 use damage::{damage, Way};
 use std::cell::Cell;
+use std::collections::BTreeMap;
 use std::process::ExitCode;
 use std::sync::atomic::{AtomicU64, Ordering};
 use std::thread;
@@ -21,37 +22,51 @@ const DEFAULT_SEED: u64 = 20_240_611;
 /// Calls in a run on one file; a run depends on the seed and its number alone.
 const RUN_LENGTH: u64 = 50;
 const THREADS: u64 = 2;
-/// With fewer cases than this a reply may be missing by chance.
-const CASES_FOR_EVERY_REPLY: u64 = 100_000;
+/// With fewer cases than this an ending may be missing by chance.
+const CASES_FOR_EVERY_ENDING: u64 = 100_000;
 
-/// How often each reply came for each kind of call.
+/// How often each kind of call ended in each way.
 #[derive(Default)]
-struct Tally([[u64; 16]; KINDS.len()]);
+struct Tally([BTreeMap<String, u64>; KINDS.len()]);
 
 impl Tally {
-    fn add(&mut self, other: &Tally) {
-        for (mine, theirs) in self.0.iter_mut().flatten().zip(other.0.iter().flatten()) {
-            *mine += theirs;
+    fn count(&mut self, kind: usize, ending: String, times: u64) {
+        *self.0[kind].entry(ending).or_default() += times;
+    }
+
+    fn add(&mut self, other: Tally) {
+        for (kind, counts) in other.0.into_iter().enumerate() {
+            counts.into_iter().for_each(|(ending, times)| self.count(kind, ending, times));
         }
     }
 
     fn print(&self) {
-        println!("replies by call (view, parent, forwards: 0 where empty or none, else 1):");
-        for (kind, counts) in KINDS.iter().zip(&self.0).filter(|(kind, _)| !kind.replies.is_empty()) {
-            let counted = counts.iter().enumerate().filter(|(_, &count)| count > 0);
-            let texts: Vec<String> = counted.map(|(reply, count)| format!("{reply}: {count}")).collect();
-            println!("  {:8} {}", kind.name, texts.join(", "));
+        println!("replies by call:");
+        for (kind, counts) in KINDS.iter().zip(&self.0) {
+            let counted = kind.endings.iter().filter_map(|&ending| Some((ending, counts.get(ending)?)));
+            let texts: Vec<String> = counted.map(|(ending, count)| format!("{ending}: {count}")).collect();
+            println!("  {:12} {}", kind.name, texts.join(", "));
         }
     }
 
-    /// The replies that never came though their call can give them.
+    /// The ways in which no call ended though its kind can.
     fn missing(&self) -> Vec<String> {
         let kinds = KINDS.iter().zip(&self.0);
         let missing = kinds.flat_map(|(kind, counts)| {
-            let never = kind.replies.iter().filter(|&&reply| counts[reply] == 0);
-            never.map(|reply| format!("{} {reply}", kind.name))
+            let never = kind.endings.iter().filter(|&&ending| !counts.contains_key(ending));
+            never.map(|ending| format!("{} {ending}", kind.name))
         });
         missing.collect()
+    }
+
+    /// The ways in which calls ended though their kind cannot.
+    fn strange(&self) -> Vec<String> {
+        let kinds = KINDS.iter().zip(&self.0);
+        let strange = kinds.flat_map(|(kind, counts)| {
+            let unknown = counts.keys().filter(|ending| !kind.endings.contains(&ending.as_str()));
+            unknown.map(|ending| format!("{} {ending}", kind.name))
+        });
+        strange.collect()
     }
 }
 
@@ -104,8 +119,13 @@ fn compare(cases: u64, seed: u64) -> ExitCode {
         return ExitCode::FAILURE;
     }
     tally.print();
+    let strange = tally.strange();
+    if !strange.is_empty() {
+        println!("must not come: {}", strange.join(", "));
+        return ExitCode::FAILURE;
+    }
     let missing = tally.missing();
-    if cases >= CASES_FOR_EVERY_REPLY && !missing.is_empty() {
+    if cases >= CASES_FOR_EVERY_ENDING && !missing.is_empty() {
         println!("never came: {}", missing.join(", "));
         return ExitCode::FAILURE;
     }
@@ -127,7 +147,7 @@ fn run_all(cases: u64, seed: u64) -> (Tally, Option<Difference>) {
     let mut tally = Tally::default();
     let mut differences = Vec::new();
     for (part, difference) in results {
-        tally.add(&part);
+        tally.add(part);
         differences.extend(difference);
     }
     (tally, differences.into_iter().min_by_key(|difference| difference.case))
@@ -167,7 +187,7 @@ fn run_calls(seed: u64, run: u64, length: u64, bench: &mut Bench, tally: &mut Ta
             let text = describe(&call, &ways, &bench.before, library, twin, &differences);
             return Err(Difference { case: run * RUN_LENGTH + step, text });
         }
-        tally.0[call.kind()][call.counted(&twin).min(15)] += 1;
+        tally.count(call.kind(), call.ending(twin, &bench.twin), 1);
         if goes_on(&call, &ways, bench, &mut random) {
             std::mem::swap(&mut world.file, &mut bench.twin.file);
             std::mem::swap(&mut world.table, &mut bench.twin.table);
@@ -193,9 +213,10 @@ fn goes_on(call: &Call, ways: &[Way], bench: &Bench, random: &mut Random) -> boo
 fn random_call(world: &World, random: &mut Random) -> Call {
     let client = random.below(world.clients()) as u64;
     match random.below(100) {
-        0..=29 => Call::Insert { client, key: world.key(random) },
-        30..=50 => Call::Search { client, key: world.key(random) },
-        51..=63 => Call::Split,
+        0..=13 => Call::Insert { client, key: world.key(random) },
+        14..=43 => random_insert_split(world, client, random),
+        44..=56 => Call::Search { client, key: world.key(random) },
+        57..=63 => Call::Split,
         64..=73 => Call::Check,
         74..=85 => Call::Scan { client, lift: world.lift(random) },
         86..=90 => Call::View { bucket: random_bucket(world, random) },
@@ -204,6 +225,21 @@ fn random_call(world: &World, random: &mut Random) -> Call {
         98 => Call::Parent { bucket: random_number(random) },
         _ => Call::Forwards,
     }
+}
+
+/// Mostly with a threshold that is in range, often near the one at which the decision turns.
+fn random_insert_split(world: &World, client: u64, random: &mut Random) -> Call {
+    let key = world.loading_key(random);
+    let any = random.number();
+    let in_range = 1 + any % 100;
+    let threshold = match random.below(20) {
+        0 => random.pick(&[0, 101, 255, 256, 1 << 32, in_range + (1 << 32), 1 << 63, any, u64::MAX]),
+        1..=3 => in_range,
+        4..=8 => 100,
+        9 => 1,
+        _ => (world.turning_threshold(key) + any % 2).clamp(1, 100),
+    };
+    Call::InsertSplit { client, key, threshold }
 }
 
 fn random_bucket(world: &World, random: &mut Random) -> u64 {

@@ -23,6 +23,7 @@ impl Shape {
             8..=79 => 1,
             80..=199 => 2,
             200..=299 => 1 + random.below(40),
+            300..=399 => 64,
             _ => 16,
         };
         let slots = match random.below(20) {
@@ -132,6 +133,41 @@ impl World {
         }
     }
 
+    /// A new key for a bucket that one more record makes overfull, if a few tries find one. Half of them are among the
+    /// buckets that are not split yet, and the one with the fewest records is taken: there it may not be due.
+    fn overfilling_key(&self, random: &mut Random) -> Option<u64> {
+        let header = self.header()?;
+        let state = header.state;
+        let unsplit = state.pointer as usize..1 << state.level;
+        let all = 0..state.bucket_count() as usize;
+        let tries: [usize; 6] = std::array::from_fn(|number| {
+            let among = if number < 3 { &unsplit } else { &all };
+            among.start + random.below(among.len())
+        });
+        let counted = tries.map(|bucket| (self.keys(&header, bucket as u32).count(), bucket as u32));
+        let overfilled =
+            counted.into_iter().filter(|(count, _)| (header.capacity as usize..header.slots).contains(count));
+        let (_, bucket) = overfilled.min()?;
+        let level = state.level_of(bucket);
+        Some(new_key(random) >> level << level | u64::from(bucket))
+    }
+
+    /// A key for an insert with load control.
+    pub fn loading_key(&self, random: &mut Random) -> u64 {
+        let overfilling = self.overfilling_key(random);
+        overfilling.filter(|_| random.chance(2, 3)).unwrap_or_else(|| self.key(random))
+    }
+
+    /// The load by a key's bucket with one more record, in percent: where a threshold lets load control turn.
+    pub fn turning_threshold(&self, key: u64) -> u64 {
+        let Some(header) = self.header() else { return 1 };
+        let bucket = header.state.address(key);
+        let records = self.keys(&header, bucket).count() as u64 + 1;
+        let factor = u64::from(1 + header.state.level_of(bucket) - header.state.level);
+        let scaled = (100 * records * factor) << header.state.level;
+        scaled / u64::from(header.capacity * header.state.bucket_count())
+    }
+
     pub fn lift(&self, random: &mut Random) -> u32 {
         match self.held_key(random) {
             Some(key) if random.chance(2, 3) => (key >> 32) as u32,
@@ -178,7 +214,7 @@ fn random_bucket_count(most: usize, random: &mut Random) -> usize {
 fn random_file(shape: &Shape, state: State, random: &mut Random) -> Vec<u8> {
     let mut file = vec![0; shape.file_length()];
     file[..HEADER_LENGTH].copy_from_slice(&shape.header(state));
-    let fill = random.below(6);
+    let fill = random.below(8);
     let style = KeyStyle::random(random);
     let regions = file[HEADER_LENGTH..].chunks_exact_mut(shape.region_length());
     for (bucket, region) in (0..state.bucket_count()).zip(regions) {
@@ -187,6 +223,7 @@ fn random_file(shape: &Shape, state: State, random: &mut Random) -> Vec<u8> {
             1 => shape.slots,
             2 => shape.capacity,
             3 => shape.slots - random.below(2),
+            4 | 5 => (shape.capacity - 1 + random.below(3)).min(shape.slots),
             _ => random.below(shape.slots + 1),
         };
         fill_region(region, bucket, state.level_of(bucket), count, style, random);
