@@ -16,11 +16,10 @@ use Rattle.ride.specs.Call.{adjustedTable, search, insert}
 use Rattle.load.specs.Load.{insertSplit}
 use Rattle.scan.specs.Scan.{scan}
 use Rattle.scan.specs.Scan.Outcome.{scan-refused}
-use Rattle.demands.specs.Run.{Memory, Call, Insert, InsertSplit, Search, AllTyped, Each, after}
-use Rattle.demands.specs.Run.{run}
-use Rattle.demands.specs.Run.{replied, conditions, Finds, Accepted, Kept, Ready, sent}
-use Rattle.demands.specs.Run.{Reached, VisitsOnce, believed, wrongFirst, forwardsOf, summed}
-use Rattle.demands.specs.Run.{NotJoined, started, FromNothing}
+use Rattle.demands.specs.Run.{Memory, Call, Insert, InsertSplit, Search, AllTyped, Each}
+use Rattle.demands.specs.Run.{after, run, replied, conditions, Finds, Accepted, Kept, Ready}
+use Rattle.demands.specs.Run.{sent, Reached, VisitsOnce, believed, wrongFirst, forwardsOf}
+use Rattle.demands.specs.Run.{summed, NotJoined, started, FromNothing}
 use Rattle.demands.specs.Run.Clients.{ready-run, each-run, sent-reaches, scan-once}
 use Rattle.demands.specs.Run.Clients.{wrong-sends, forwards-summed}
 use Rattle.demands.specs.Run.Fresh.{fresh-ready, fresh-believes, fresh-empty, finds-accepted}

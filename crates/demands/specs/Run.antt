@@ -21,11 +21,11 @@ use Rattle.address.specs.Rules.Scan.{times}
 use Rattle.layout.specs.Bytes.{Bytes, allZero, part}
 use Rattle.layout.specs.Replies.{Refusal, refuse, reply}
 use Rattle.bucket.specs.Region.{Ride, ridesOf, every}
-use Rattle.client.specs.Table.{lengthSound, exists, imageOf, tableSound, tableRefusals}
-use Rattle.client.specs.Table.{Joined, join}
+use Rattle.client.specs.Table.{lengthSound, exists, imageOf, tableSound, tableRefusals, Joined}
+use Rattle.client.specs.Table.{join}
 use Rattle.file.specs.File.{mostOf, stateOf, bucketsOf, headerSound, regionOf, bucketSoundIn}
-use Rattle.file.specs.File.{fileSound, lowestUnsound, Checked, check, view, create}
-use Rattle.file.specs.File.{SplitOutcome, split}
+use Rattle.file.specs.File.{fileSound, lowestUnsound, Checked, check, view, create, SplitOutcome}
+use Rattle.file.specs.File.{split}
 use Rattle.route.specs.Way.{early, cut, wayOf, ownOf, held, full}
 use Rattle.ride.specs.Call.{Outcome, search, insert}
 use Rattle.load.specs.Load.{number, decisionOn, Loaded, insertSplit}
@@ -158,14 +158,15 @@ splits m key t = eqb (number (decisionOn (m .file) key t)) 1
 pub conditions : Memory → Call → List Refusal
 conditions m (Join client) = tableRefusals (m .table) client
 conditions m (Insert client key payload answer) =
-    refuse 14 (not (eqb (length answer) 24 && eqb (length payload) 14)) ∷ insertConditions m client key
+    refuse 14 (not (eqb (length answer) 24 && eqb (length payload) 14))
+    ∷ insertConditions m client key
 conditions m (InsertSplit client key payload t answer) =
     refuse 14 (not (eqb (length answer) 24 && eqb (length payload) 14))
     ∷ refuse 15 (not (thresholdFits t))
     ∷ (insertConditions m client key
     ++ (refuse 7 (splits m key t && not (bucketSoundIn (m .file) (splitting (stateOf (m .file)))))
-    ∷ refuse 7
-    (splits m key t && not (allZero (regionOf (m .file) (newborn firstBuckets (stateOf (m .file))))))
+    ∷ refuse 7 (splits m key t
+    && not (allZero (regionOf (m .file) (newborn firstBuckets (stateOf (m .file))))))
     ∷ []))
 conditions m (Search client key answer) =
     refuse 14 (not (eqb (length answer) 24))
@@ -310,7 +311,8 @@ summed count m (call ∷ calls) = count m (sent m call) + summed count (after m 
 pub parts : Memory → ℕ → ℕ → List ℕ → ℕ → List ℕ → List Call
 parts m client key payload t answer =
     Insert client key payload answer
-    ∷ cond (eqb (number (answered m (InsertSplit client key payload t answer) .split)) 1) (Split ∷ []) []
+    ∷ cond (eqb (number (answered m (InsertSplit client key payload t answer) .split)) 1)
+    (Split ∷ []) []
 
 -- The buckets that a scan visits.
 pub visited : Memory → ℕ → ℕ → List ℕ → List ℕ → List ℕ

@@ -1,5 +1,8 @@
 -- Load control as document 02 §2 has it: one call does insert, decision and split. It is said by insert and split.
+pub mod Decision
 pub mod Left
+pub mod Own
+pub mod Regions
 pub mod Ways
 use Prim.Native.Nat.{ℕ}
 use mathlib.Core.Bool.{cond, not, _&&_}

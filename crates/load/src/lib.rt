@@ -24,7 +24,8 @@ ghost use Rattle.ride.specs.Call.{routed, placed};
 ghost use Rattle.load.specs.declared.Control.the-variants.{NotDue, Done};
 ghost use Rattle.load.specs.Load.{number, decision, leaving, decided, controlled, insertSplit};
 ghost use Rattle.load.specs.declared.Regions.the-variants.{Sound};
-ghost use Rattle.load.specs.Load.Ways.{refusalAt, regionsOf, regionsFor, Roomy, Kept, Divisible};
+ghost use Rattle.load.specs.Load.Own.{refusalAt, Kept, Divisible};
+ghost use Rattle.load.specs.Load.Regions.{regionsOf, regionsFor, Roomy};
 
 // Whether a split was not due, done, or due in a file that has its most buckets.
 pub enum Control {

@@ -28,20 +28,18 @@ use Rattle.file.specs.File.Judge.{existing}
 use Rattle.file.specs.File.Keeping.{sound-split}
 use Rattle.file.specs.File.{stateOf, bucketsOf, bucketSoundIn, SplitOutcome}
 use Rattle.route.specs.Way.{early, ownOf}
-use Rattle.route.specs.Way.Keeping.{Passed, passed, formed, believes, near, written-behind, written-grows}
-use Rattle.route.specs.Way.Keeping.{route-sound}
+use Rattle.route.specs.Way.Keeping.{Passed, passed, formed, believes, near, written-behind, written-grows, route-sound}
 use Rattle.route.specs.Way.Own.{own-is}
 use Rattle.route.specs.Way.Route.{way-route, cut-none}
 use Rattle.ride.specs.Call.{adjustedTable}
 use Rattle.ride.specs.Call.Keeping.{adjusted-image, adjusted-other, adjusted-exists, adjusted-kept}
 use Rattle.ride.specs.Call.Left.{search-ways, insert-ways}
 use Rattle.load.specs.Load.Left.{load-ways}
-use Rattle.load.specs.Load.Ways.{room-on}
+use Rattle.load.specs.Load.Decision.{room-on}
 use Rattle.demands.specs.Run.{Memory, Call, Join, Insert, InsertSplit, Search, Split, Scan, Check, View, Parent}
 use Rattle.demands.specs.Run.{Typed, AllTyped, Each, left, leftLoaded, after, run, replied, answered, visited}
-use Rattle.demands.specs.Run.{VisitsOnce, Ready}
-use Rattle.demands.specs.Run.{Sent, Nothing, Key}
-use Rattle.demands.specs.Run.{sentIf, sent, routeOf, Reached, believed, wrongFirst, forwardsOf, summed, NotJoined}
+use Rattle.demands.specs.Run.{VisitsOnce, Ready, Sent, Nothing, Key, sentIf, sent, routeOf, Reached, believed}
+use Rattle.demands.specs.Run.{wrongFirst, forwardsOf, summed, NotJoined}
 use Rattle.scan.specs.Scan.Outcome.{scan-visits-once, scan-visits-only}
 use Rattle.demands.specs.Run.Held.{step, through}
 

@@ -26,9 +26,8 @@ use Rattle.bucket.specs.Region.Keep.{kept-member, member-kept}
 use Rattle.file.specs.File.{mostOf, stateOf, bucketsOf, regionOf, fileSound, withRide, divided, split}
 use Rattle.file.specs.File.Judge.{Ranges, header-ranges, buckets-of, existing}
 use Rattle.file.specs.File.Keeping.{sound-header, sound-bucket, Fitting, ride-kept, ride-held, others-held}
-use Rattle.file.specs.File.Keeping.{ride-buckets}
-use Rattle.file.specs.File.Keeping.{ride-bytes, count-held}
-use Rattle.file.specs.File.Keeping.{split-kept, split-state, split-bytes, split-old, split-new, split-other}
+use Rattle.file.specs.File.Keeping.{ride-buckets, ride-bytes, count-held, split-kept, split-state, split-bytes}
+use Rattle.file.specs.File.Keeping.{split-old, split-new, split-other}
 use Rattle.file.specs.File.Split.{split-ways}
 use Rattle.file.specs.File.Write.{Shown, shown, bucket-shown}
 use Rattle.answer.specs.Answer.{block}
@@ -43,8 +42,7 @@ use Rattle.ride.specs.Call.Replied.{count-is, inserted-is}
 use Rattle.load.specs.Load.Left.{Accepting, load-ways}
 use Rattle.demands.specs.Run.{Memory, Call, Join, Insert, InsertSplit, Search, Split, Scan, Check, View, Parent}
 use Rattle.demands.specs.Run.{Typed, AllTyped, left, leftLoaded, after, run, replied, answered, Holds, Accepts}
-use Rattle.demands.specs.Run.{Accepted, payloadIn}
-use Rattle.demands.specs.Run.{Finds, Kept}
+use Rattle.demands.specs.Run.{Accepted, payloadIn, Finds, Kept}
 
 -- what becomes of the rides of a sound file: it is sound, and holds what it held and some more
 pub record Grown (before now : List ℕ) (more : Ride → Type 0) : Type 0 where

@@ -16,7 +16,7 @@ use Rattle.load.specs.declared.Control.{Control}
 use Rattle.load.specs.declared.Control.the-variants.{NotDue, Done, NoRoom}
 use Rattle.load.specs.Load.{number, decisionOn, Loaded, alone, together, insertSplit}
 use Rattle.load.specs.Load.Left.{together-done, load-refused-as, load-alone, load-together}
-use Rattle.load.specs.Load.Ways.{not-due-done, no-room-done, done-number, other-number, room-on}
+use Rattle.load.specs.Load.Decision.{not-due-done, no-room-done, done-number, other-number, room-on}
 use Rattle.demands.specs.Run.{Memory, Call, Insert, InsertSplit, Split, left, leftLoaded, after, answered, run}
 use Rattle.demands.specs.Run.{replied, parts}
 

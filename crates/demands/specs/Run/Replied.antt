@@ -15,8 +15,7 @@ use Rattle.scan.specs.Scan.Replied.{scan-reply}
 use Rattle.load.specs.Load.{Loaded, insertSplit}
 use Rattle.load.specs.Load.Left.{Spared, load-ways, load-reply}
 use Rattle.demands.specs.Run.{Memory, Call, Join, Insert, InsertSplit, Search, Split, Scan, Check, View, Parent}
-use Rattle.demands.specs.Run.{left, leftLoaded, after}
-use Rattle.demands.specs.Run.{replied, answered, conditions}
+use Rattle.demands.specs.Run.{left, leftLoaded, after, replied, answered, conditions}
 
 pub call-replies : (m : Memory) (call : Call) → replied m call ≡ reply (conditions m call) 0
 unfolding replied conditions answered

@@ -31,9 +31,8 @@ use Rattle.file.specs.declared.Header.{Header}
 use Rattle.file.specs.File.Judge.{Ranges, Known, header-ranges, buckets-of, existing, state-back, state-small}
 use Rattle.file.specs.File.Region.{region-bucket, region-past}
 use Rattle.file.specs.File.Write.{Shown, shown, with-slots, with-state, with-sound, with-most, with-here}
-use Rattle.file.specs.File.Write.{with-capacity}
-use Rattle.file.specs.File.Write.{with-other, with-bytes, state-slots, state-most, state-back-again, state-header}
-use Rattle.file.specs.File.Write.{state-region, state-bytes}
+use Rattle.file.specs.File.Write.{with-capacity, with-other, with-bytes, state-slots, state-most}
+use Rattle.file.specs.File.Write.{state-back-again, state-header, state-region, state-bytes}
 use Rattle.file.specs.File.Split.{moves, split-done}
 
 -- a sound file's header and regions

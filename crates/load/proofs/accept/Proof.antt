@@ -1,5 +1,6 @@
 -- `load::accept` refuses where a region of the split is unsound, or commits what is decided.
-use Rattle.load.specs.Load.Ways.{roomy, regions-passed, load-unsound, load-decided}
+use Rattle.load.specs.Load.Own.{load-unsound, load-decided}
+use Rattle.load.specs.Load.Regions.{roomy, regions-passed}
 use borrow.Author.Needs.{needs}
 use Rattle.load.proofs.accept.Statement.{statement}
 use Rattle.load.proofs.accept.Tie as tie

@@ -1,5 +1,5 @@
 -- `load::commit` places the ride, and then does what is left of the decision.
-use Rattle.load.specs.Load.Ways.{divisible, commit-done, commit-not-due, commit-no-room}
+use Rattle.load.specs.Load.Own.{divisible, commit-done, commit-not-due, commit-no-room}
 use borrow.Author.Needs.{needs}
 use Rattle.load.proofs.commit.Statement.{statement}
 use Rattle.load.proofs.commit.Tie as tie

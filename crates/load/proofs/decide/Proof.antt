@@ -1,5 +1,5 @@
 -- `load::decide` asks in turn whether the bucket is overfull, a split due and room for it.
-use Rattle.load.specs.Load.Ways.{decide-below, decide-not, decide-no-room, decide-done}
+use Rattle.load.specs.Load.Decision.{decide-below, decide-not, decide-no-room, decide-done}
 use borrow.Author.Needs.{needs}
 use Rattle.load.proofs.decide.Statement.{statement}
 use Rattle.load.proofs.decide.Tie as tie

@@ -1,5 +1,5 @@
 -- `load::divide` divides bucket n, which is sound, with a region that is zero.
-use Rattle.load.specs.Load.Ways.{divisible-old}
+use Rattle.load.specs.Load.Own.{divisible-old}
 use borrow.Author.Needs.{needs}
 use Rattle.load.proofs.divide.Statement.{statement}
 use Rattle.load.proofs.divide.Tie as tie

@@ -1,5 +1,5 @@
 -- `load::finish` turns the key away, or accepts it.
-use Rattle.load.specs.Load.Ways.{load-away}
+use Rattle.load.specs.Load.Own.{load-away}
 use borrow.Author.Needs.{needs}
 use Rattle.load.proofs.finish.Statement.{statement}
 use Rattle.load.proofs.finish.Tie as tie

@@ -1,5 +1,5 @@
 -- `load::insert_refusal` asks for the key, then for a slot.
-use Rattle.load.specs.Load.Ways.{at-held, at-full, at-free}
+use Rattle.load.specs.Load.Own.{at-held, at-full, at-free}
 use Rattle.load.proofs.insert_refusal.Statement.{statement}
 use Rattle.load.proofs.insert_refusal.Tie as tie
 

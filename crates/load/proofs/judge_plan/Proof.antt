@@ -1,5 +1,5 @@
 -- `load::judge_plan` judges the regions of a split that is to be done.
-use Rattle.load.specs.Load.Ways.{regions-not-due, regions-no-room, regions-done, room-done}
+use Rattle.load.specs.Load.Regions.{regions-not-due, regions-no-room, regions-done, room-done}
 use borrow.Author.Needs.{needs}
 use Rattle.load.proofs.judge_plan.Statement.{statement}
 use Rattle.load.proofs.judge_plan.Tie as tie

@@ -1,6 +1,6 @@
 -- `load::judge_regions` judges bucket n, then the region of the new bucket.
 use Rattle.file.specs.File.Split.{old-exists, new-there}
-use Rattle.load.specs.Load.Ways.{regions-bad, regions-used, regions-sound}
+use Rattle.load.specs.Load.Regions.{regions-bad, regions-used, regions-sound}
 use borrow.Author.Needs.{needs}
 use Rattle.load.proofs.judge_regions.Statement.{statement}
 use Rattle.load.proofs.judge_regions.Tie as tie

@@ -1,5 +1,5 @@
 -- `load::number_of` tells the case apart.
-use Rattle.load.specs.Load.Ways.{number-zero, number-one, number-two}
+use Rattle.load.specs.Load.Decision.{number-zero, number-one, number-two}
 use borrow.Author.Needs.{needs}
 use Rattle.load.proofs.number_of.Statement.{statement}
 use Rattle.load.proofs.number_of.Tie as tie

@@ -1,5 +1,5 @@
 -- `load::old_sound` judges bucket n, unless it is the own bucket of the key, which is sound.
-use Rattle.load.specs.Load.Ways.{old-own}
+use Rattle.load.specs.Load.Regions.{old-own}
 use borrow.Author.Needs.{needs}
 use Rattle.load.proofs.old_sound.Statement.{statement}
 use Rattle.load.proofs.old_sound.Tie as tie

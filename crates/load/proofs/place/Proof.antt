@@ -1,7 +1,7 @@
 -- `load::place` adjusts the image and places the ride, for which a slot is free.
 use Rattle.layout.specs.Bytes.{Bytes}
 use Rattle.bucket.specs.Region.{Whole}
-use Rattle.load.specs.Load.Ways.{slot-free, placed-there, kept-placed}
+use Rattle.load.specs.Load.Own.{slot-free, placed-there, kept-placed}
 use borrow.Author.Needs.{needs}
 use Rattle.load.proofs.place.Statement.{statement}
 use Rattle.load.proofs.place.Tie as tie

@@ -32,8 +32,10 @@ use Rattle.load.specs.declared.Control.{Control}
 use Rattle.load.specs.declared.Control.the-variants.{NotDue, Done, NoRoom}
 use Rattle.load.specs.Load.{number, decisionOn, Loaded, alone, together, decided, controlled, unranged}
 use Rattle.load.specs.Load.{insertSplit}
-use Rattle.load.specs.Load.Ways.{controlled-refused, controlled-accepted, not-due-done, no-room-done, done-number}
-use Rattle.load.specs.Load.Ways.{other-number, room-on, inserted-split}
+use Rattle.load.specs.Load.Decision.{not-due-done, no-room-done, done-number}
+use Rattle.load.specs.Load.Own.{controlled-refused, controlled-accepted}
+use Rattle.load.specs.Load.Decision.{other-number, room-on}
+use Rattle.load.specs.Load.Regions.{inserted-split}
 
 -- a refusal that leaves table and file as they were: not 8 nor 9, and with 14 the answer block too
 pub record Spared (file table answer : List ℕ) (o : Loaded) : Type 0 where
