@@ -98,11 +98,9 @@ fn slots_paired(
     requires { ⌜ Room first level × (slotAt count ≤ length (now region)) × (count ≤ mostSlots) ⌝ }
     ensures { λ r. ⌜ SlotsJudged (keeps first bucket level) (now (region .entry)) count key (r .sound) (r .place) ⌝ }
 {
-    let mut place = count;
     let mut k = 0;
     while k < count {
         let held = key_at(region, k);
-        place = chosen(held == key, k, place);
         if !slot_fits(region, k, first, bucket, level, held) {
             return unsound();
         }
@@ -111,7 +109,10 @@ fn slots_paired(
         }
         k = k + 1;
     }
-    Judged { sound: true, place }
+    Judged {
+        sound: true,
+        place: find(region, count, key),
+    }
 }
 
 // A number, one of the fingerprints, that keys of different rides and lifts seldom share.

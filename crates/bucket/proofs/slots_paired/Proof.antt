@@ -1,5 +1,5 @@
--- `bucket::slots_paired`: the slots so far fit, their keys are distinct, and the key's slot is known among them; each
--- turn adds one slot whose key is not found before it.
+-- `bucket::slots_paired`: the slots so far fit and their keys are distinct; each turn adds one slot whose key is not
+-- found before it. In the end the key asked for is found among them all.
 use borrow.Author.Needs.{needs}
 use Prim.Native.Nat.{_-_, _≤_}
 use mathlib.Core.Path.{_≡_}
@@ -11,34 +11,28 @@ use Rattle.layout.specs.Bytes.Tests.{all-none}
 use Rattle.bucket.specs.Region.{ridesFrom, keysOf, distinct}
 use Rattle.bucket.specs.Region.Judge.{fitting}
 use Rattle.bucket.specs.Region.Single.{single-none}
-use Rattle.bucket.specs.Region.Single.{Placed, place-none}
-use Rattle.bucket.specs.Region.Told.{slot-unfit, paired-double, slot-next, paired-next, placed-next, paired-done}
+use Rattle.bucket.specs.Region.Told.{slot-unfit, paired-double, slot-next, paired-next, paired-done}
 use Rattle.bucket.proofs.slots_paired.Statement.{statement}
 use Rattle.bucket.proofs.slots_paired.Tie as tie
 
 abbrev Inv-loop : tie.InvT-loop
-Inv-loop region count first bucket level key place₀ k₀ place k = (k ≤ count)
+Inv-loop region count first bucket level key k₀ k = (k ≤ count)
     × (allBelow (fitting (keeps first bucket level) region) k ≡ true)
-    × (distinct (keysOf (ridesFrom region 0 k)) ≡ true) × Placed region key count k place
+    × (distinct (keysOf (ridesFrom region 0 k)) ≡ true)
 
 abbrev μ-loop : tie.MeasureT-loop
-μ-loop region count first bucket level key place₀ k₀ place k = count - k
+μ-loop region count first bucket level key k₀ k = count - k
 
 loop-holds : tie.Need-loop-holds Inv-loop μ-loop
 loop-holds c =
     let a = c .before .args in (
       omega arith,
       all-none (fitting (keeps (a .first) (a .bucket) (a .level)) (a .region .now)),
-      single-none
-          (a .region .now),
-      place-none (a .region .now) (a .key) (a .count),
+      single-none (a .region .now),
     )
 
 key-at-requires : tie.Need-key-at-requires Inv-loop μ-loop
 key-at-requires c κs = search needs
-
-chosen-requires : tie.Need-chosen-requires Inv-loop μ-loop
-chosen-requires c κs = search needs
 
 slot-fits-requires : tie.Need-slot-fits-requires Inv-loop μ-loop
 slot-fits-requires c κs = search needs
@@ -66,14 +60,15 @@ loop-less c = search needs
 
 loop-again : tie.Need-loop-again Inv-loop μ-loop
 loop-again c =
-    let f = c .before .before .before in
-    let h = f .before .before in
+    let h = c .before .before .before .before in
     let l = h .before .before .loop in (
       omega arith,
-      slot-next _ _ _ _ _ (h .key-at .ensures) (f .slot-fits .ensures) (c .before .before .if1 .left) (l .inv .1),
+      search slot-next,
       paired-next _ _ (l .inv .2) (h .key-at .ensures) (c .before .find .ensures) (c .if2 .left),
-      placed-next _ _ _ _ (h .key-at .ensures) (l .inv .3) (f .before .chosen .ensures),
     )
+
+find-requires-2 : tie.Need-find-requires-2 Inv-loop μ-loop
+find-requires-2 c κs = search needs
 
 returns-3 : tie.Need-returns-3 Inv-loop μ-loop
 returns-3 c = search paired-done
@@ -86,7 +81,6 @@ slots-paired-spec =
     μ-loop
     loop-holds
     key-at-requires
-    chosen-requires
     slot-fits-requires
     unsound-requires
     returns
@@ -96,4 +90,5 @@ slots-paired-spec =
     add-k
     loop-less
     loop-again
+    find-requires-2
     returns-3)

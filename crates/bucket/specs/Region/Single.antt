@@ -296,44 +296,11 @@ pub chain-done : (region : List ℕ) (count k : ℕ) (latests before : List ℕ)
     → true ≡ distinct (keysOf (ridesFrom region 0 count))
 chain-done region count k latests before so end = single-done region count k (so .within) end (so .single)
 
--- ---- a key sought on the way: its slot among those so far, or the count
+-- ---- a key sought: its slot, or the count
 
-pub record Placed (region : List ℕ) (key count k place : ℕ) : Type 0 where
-  pub at : ((place ≡ count) × ((i : ℕ) → i < k → keyAt region i ≡ key → ⊥)) ⊎ ((place < k) × (keyAt region place ≡ key))
-
-pub place-none : (region : List ℕ) (key count : ℕ) → Placed region key count 0 count
-place-none region key count = record { at = inl (refl, λ i h e. absurd (omega arith)) }
-
-pub place-more : (region : List ℕ) (key count k place next : ℕ) → Placed region key count k place
-    → next ≡ cond (eqb (keyAt region k) key) k place
-    → Placed region key count (k + 1) next
-place-more region key count k place next so e = record { at = ⊎-elim here there (same (keyAt region k) key) }
-  where
-    here : keyAt region k ≡ key
-        → ((next ≡ count) × ((i : ℕ) → i < k + 1 → keyAt region i ≡ key → ⊥))
-        ⊎ ((next < k + 1) × (keyAt region next ≡ key))
-    here h = inr (omega (arith, is), ap (keyAt region) is ∙ h)
-      where
-        is : next ≡ k
-        is = e ∙ rw (eq-eqb (keyAt region k) key h)
-
-    there : (keyAt region k ≡ key → ⊥)
-        → ((next ≡ count) × ((i : ℕ) → i < k + 1 → keyAt region i ≡ key → ⊥))
-        ⊎ ((next < k + 1) × (keyAt region next ≡ key))
-    there h = ⊎-elim
-        (λ none. inl (
-          is ∙ none .0,
-          λ i l f.
-              ⊎-elim (λ m. none .1 i m f) (λ m. h (ap (keyAt region) (equal i l m) ∙ f)) (below i k),
-        ))
-        (λ some. inr (omega (arith, is, some .0), ap (keyAt region) is ∙ some .1))
-        (so .at)
-      where
-        is : next ≡ place
-        is = e ∙ rw (ne-eqb (keyAt region k) key h)
-
-        equal : (i : ℕ) → i < k + 1 → k ≤ i → k ≡ i
-        equal i l m = omega arith
+pub record Placed (region : List ℕ) (key count place : ℕ) : Type 0 where
+  pub at : ((place ≡ count) × ((i : ℕ) → i < count → keyAt region i ≡ key → ⊥))
+      ⊎ ((place < count) × (keyAt region place ≡ key))
 
 -- of distinct keys two slots do not hold the same
 apart : (region : List ℕ) (count i j : ℕ) → distinct (keysOf (ridesFrom region 0 count)) ≡ true → i < j → j < count
@@ -343,23 +310,16 @@ apart region count i j single low high e = true≢false (sym single ∙ distinct
     ∙ and-none (distinct (keysOf (ridesFrom region 0 j))) _
     (stands region (keyAt region j) 0 j i (omega arith) (omega arith) e)))
 
-pub place-whole : (region : List ℕ) (key count k place : ℕ) → k ≤ count → count ≤ k → Placed region key count k place
-    → Placed region key count count place
-place-whole region key count k place within end so = subst (λ (n : ℕ). Placed region key count n place) all so
-  where
-    all : k ≡ count
-    all = omega arith
-
 -- the slot that a search along the chains gives
 pub place-sought : (region : List ℕ) (key count found place : ℕ) → SoughtAt region key count found
-    → place ≡ cond (eqb found 0) count (found - 1) → Placed region key count count place
+    → place ≡ cond (eqb found 0) count (found - 1) → Placed region key count place
 place-sought region key count found place so e = ⊎-elim
     (λ z. record { at = inl (e ∙ rw (eq-eqb found 0 z), so .none z) })
     (λ z. let is : place ≡ found - 1 = e ∙ rw (ne-eqb found 0 z)
     in record { at = inr (omega (arith, is, so .within, z), ap (keyAt region) is ∙ so .here z) })
     (same found 0)
 
-pub place-done : (region : List ℕ) (key count place : ℕ) → Placed region key count count place
+pub place-done : (region : List ℕ) (key count place : ℕ) → Placed region key count place
     → true ≡ distinct (keysOf (ridesFrom region 0 count))
     → place ≡ firstFrom (λ i. eqb (keyAt region i) key) count 0
 place-done region key count place so single = ⊎-elim
@@ -419,11 +379,11 @@ module _ (own : ℕ → Bool) (region : List ℕ) (count key : ℕ) where
 
   pub slots-single : (k place : ℕ) → k ≤ count → count ≤ k → allBelow (fitting own region) k ≡ true
       → true ≡ distinct (keysOf (ridesFrom region 0 count))
-      → Placed region key count count place → SlotsJudged own region count key true place
+      → place ≡ firstFrom (λ i. eqb (keyAt region i) key) count 0 → SlotsJudged own region count key true place
   slots-single k place within end fits single placed = record {
     tested = sym
         (and-both _ _ (sym (fits-all own region count) ∙ ap (allBelow (fitting own region)) all ∙ fits) (sym single));
-    found = λ e. place-done region key count place placed single;
+    found = λ e. placed;
   }
     where
       all : count ≡ k

@@ -30,7 +30,7 @@ use Rattle.bucket.specs.Region.Single.{sought-next}
 use Rattle.bucket.specs.Region.Single.{sought-met, sought-stands, sought-fresh, found-none, found-met}
 use Rattle.bucket.specs.Region.Single.{single-more}
 use Rattle.bucket.specs.Region.Single.{single-met, single-done, Chaining, chain-start, chain-met, chain-more}
-use Rattle.bucket.specs.Region.Single.{chain-whole, chain-done, Placed, place-more, place-whole, place-sought}
+use Rattle.bucket.specs.Region.Single.{chain-whole, chain-done, place-sought, place-done}
 use Rattle.bucket.specs.Region.Single.{SlotsJudged, slots-unfit, slots-double, slots-single}
 use Rattle.bucket.specs.Region.Write.{put-slot}
 
@@ -113,15 +113,11 @@ module _ (region : List ℕ) (k : ℕ) (so : distinct (keysOf (ridesFrom region 
     paired-next none = single-more region k so true (found-none region (keyAt region k) k place found none) refl
 
   pub paired-done : (N a j count key : ℕ) → k ≤ count → count ≤ k → allBelow (fitting (keeps N a j) region) k ≡ true
-      → {place : ℕ} → Placed region key count k place → SlotsJudged (keeps N a j) region count key true place
+      → {place : ℕ} → place ≡ firstFrom (λ i. eqb (keyAt region i) key) count 0
+      → SlotsJudged (keeps N a j) region count key true place
   paired-done N a j count key within end fits {place} placed =
       slots-single (keeps N a j) region count key k place within end fits
-      (single-done region count k within end so) (place-whole region key count k place within end placed)
-
-pub placed-next : (region : List ℕ) (key count k : ℕ) {place next held : ℕ} → held ≡ keyAt region k
-    → Placed region key count k place → next ≡ cond (eqb held key) k place → Placed region key count (k + 1) next
-placed-next region key count k {place} {next} is so e = place-more region key count k place next so
-    (e ∙ ap (λ (x : ℕ). cond (eqb x key) k place) is)
+      (single-done region count k within end so) placed
 
 -- ---- each slot chained to the latest before it of its key's fingerprint
 
@@ -163,7 +159,9 @@ module _ (region : List ℕ) (count k : ℕ) {latests before : List ℕ} (so : C
       → SlotsJudged (keeps N a j) region count key true place
   chained-done N a j fits end key {found} {place} sought e = slots-single (keeps N a j) region count key k place
       (so .within) end fits
-      (chain-done region count k latests before so end) (place-sought region key count found place sought e)
+      (chain-done region count k latests before so end)
+      (place-done region key count place (place-sought region key count found place sought e)
+      (chain-done region count k latests before so end))
 
 -- ---- the unused slots: what was seen of them so far is zero if every byte of them is
 
