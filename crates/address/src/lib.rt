@@ -1,5 +1,7 @@
 // The address rules of LH*: where a key belongs, where a bucket sends it on, what a client learns, and
 // how the file grows. Numbers only; `specs/Rules.antt` has each rule as a definition.
+#![tactic(auto)]
+
 ghost use Rattle.std.specs.Prelude.{◌≡◌, ◌-◌, ◌≤◌, ◌<◌};
 ghost use Rattle.address.specs.Limits.{first_buckets};
 ghost use Rattle.address.specs.Load.{percent, factor, due};
@@ -8,7 +10,7 @@ ghost use Rattle.address.specs.Rules.{span, hash, buckets, address, level, onwar
 ghost use Rattle.address.specs.Rules.{child, splitting, newborn, grown, parent};
 
 // A level and a pointer: the file's own state (i, n), or the image of it that a client has.
-#[derive(Drop)]
+#[derive(Clone, Copy)]
 pub struct Image {
     pub level: u32,
     pub pointer: u32,
@@ -16,7 +18,7 @@ pub struct Image {
 
 // What a key meets at a bucket: kept there, sent on to a numbered bucket, or stopped because that
 // bucket is unsound.
-#[derive(Drop)]
+#[derive(Clone, Copy)]
 pub enum Fate {
     Keep,
     SendOn(u32),

@@ -1,4 +1,6 @@
 // The answer block of insert and search: written, and its forwards counted.
+#![tactic(auto)]
+
 ghost use Rattle.std.specs.Prelude.{◌≡◌, ◌%◌, ◌≤◌, ◌∷◌, length, replicate};
 ghost use Rattle.layout.specs.Bytes.{le_bytes, edit};
 ghost use Rattle.route.specs.Way.{noted};

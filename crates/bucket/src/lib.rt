@@ -1,4 +1,6 @@
 // One bucket's region: judged, searched, and a ride placed in it.
+#![tactic(auto)]
+
 ghost use Rattle.std.specs.Prelude.{◌≡◌, ◌&&◌, not, cond, true, false, ℕ, ◌+◌, ◌*◌, ◌-◌, ◌≤◌, ◌<◌, eqb, length, drop, replicate};
 ghost use Rattle.address.specs.Limits.{most_slots};
 ghost use Rattle.address.specs.Room.{Room};
@@ -49,7 +51,7 @@ fn find(region: &[u8], count: usize, key: u64) -> usize
 }
 
 // Whether a region is sound, and then the slot that holds a key, or the count if none does.
-#[derive(Drop)]
+#[derive(Clone, Copy)]
 pub struct Judged {
     pub sound: bool,
     pub place: usize,

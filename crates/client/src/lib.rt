@@ -1,4 +1,6 @@
 // One client table: judged, a client's image read and written, and a client joined.
+#![tactic(auto)]
+
 ghost use Rattle.std.specs.Prelude.{◌≡◌, ◌+◌, ◌*◌, ◌≤◌, ◌<◌, length};
 ghost use Rattle.layout.specs.Replies.{reply};
 ghost use Rattle.client.specs.Table.{Joined, image_of, record_formed, image_formed, table_refusals, caller_refusals};

@@ -1,11 +1,13 @@
 // The text that the program reads: a line read as a command. Bytes and numbers only; `specs/Text.antt` has
 // the grammar.
+#![tactic(auto)]
+
 ghost use Rattle.std.specs.Prelude.{◌≡◌, ◌+◌, ◌≤◌, ◌<◌, length};
 ghost use Rattle.commands.specs.Text.{number_of, number_from, place_of, line_end, limit_after, named, of_numbers};
 ghost use Rattle.commands.specs.Text.{command_of};
 
 // What a line asks for: a split; an insert or a search by client and key; a scan by client and lift.
-#[derive(Drop)]
+#[derive(Clone, Copy)]
 pub enum Command {
     Split,
     Insert(u64, u64),
@@ -15,7 +17,7 @@ pub enum Command {
 }
 
 // What a field is where a number is due.
-#[derive(Drop)]
+#[derive(Clone, Copy)]
 enum Number {
     Value(u64),
     Malformed,

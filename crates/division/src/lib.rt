@@ -1,4 +1,6 @@
 // A bucket's rides divided between two regions, and a region made that of an empty bucket.
+#![tactic(auto)]
+
 ghost use Rattle.std.specs.Prelude.{◌≡◌, [], ◌+◌, ◌*◌, ◌-◌, ◌≤◌, ◌<◌, length, replicate};
 ghost use Rattle.address.specs.Limits.{most_slots};
 ghost use Rattle.address.specs.Room.{Room};

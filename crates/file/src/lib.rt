@@ -1,4 +1,6 @@
 // The file's header and its buckets: judged, read and filled.
+#![tactic(auto)]
+
 ghost use Rattle.std.specs.Prelude.{◌≡◌, true, false, ◌+◌, ◌≤◌, ◌<◌, length};
 ghost use Rattle.address.specs.Limits.{most_buckets, most_slots};
 ghost use Rattle.layout.specs.Bytes.{all_zero};
@@ -12,7 +14,7 @@ use address::Image;
 use bucket::Judged;
 
 // A file's header, read and judged; of an unsound one nothing is known.
-#[derive(Drop)]
+#[derive(Clone, Copy)]
 pub struct Header {
     pub sound: bool,
     pub state: Image,

@@ -1,4 +1,6 @@
 // The split: bucket n is divided with a new bucket, and the file's state grows.
+#![tactic(auto)]
+
 ghost use Rattle.std.specs.Prelude.{◌≡◌, true, ◌≤◌, ◌<◌, length};
 ghost use Rattle.address.specs.Limits.{first_buckets, no_bucket};
 ghost use Rattle.address.specs.Rules.{splitting, newborn};
@@ -10,7 +12,7 @@ use file::Header;
 
 // A split's reply, the old bucket and the new; with 7 the unsound one.
 #[repr(C)]
-#[derive(Drop)]
+#[derive(Clone, Copy)]
 pub struct SplitAnswer {
     pub reply: u32,
     pub old_bucket: u32,

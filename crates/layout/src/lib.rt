@@ -1,4 +1,6 @@
 // Bytes in lent memory: little-endian numbers, two-byte marks, zeros and copies.
+#![tactic(auto)]
+
 ghost use Rattle.std.specs.Prelude.{◌≡◌, ℕ, ◌+◌, ◌*◌, ◌≤◌, ◌<◌, eqb, length, replicate};
 ghost use Rattle.layout.specs.Bytes.{byte_at, le_at, le_bytes, marked, all_below, all_zero, edit, part};
 

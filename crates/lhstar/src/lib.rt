@@ -1,4 +1,6 @@
 // The calls of the library for C, each with the contract of the crate that has it.
+#![tactic(auto)]
+
 ghost use Rattle.std.specs.Prelude.{◌≡◌};
 ghost use Rattle.address.specs.Limits.{first_buckets};
 ghost use Rattle.address.specs.Rules.{parent};
@@ -17,7 +19,7 @@ use upkeep::CheckAnswer;
 
 // Where a part of the file starts, and its length; 0 and 0 where it is empty.
 #[repr(C)]
-#[derive(Drop)]
+#[derive(Clone, Copy)]
 pub struct ViewAnswer {
     pub start: u64,
     pub length: u64,
@@ -25,7 +27,7 @@ pub struct ViewAnswer {
 
 // The reply of an insert with load control, the number of what became of its split, and the split's answer.
 #[repr(C)]
-#[derive(Drop)]
+#[derive(Clone, Copy)]
 pub struct LoadNumbers {
     pub reply: u32,
     pub split: u32,

@@ -1,5 +1,7 @@
 // The text that the program prints: answers written as lines. Bytes and numbers only; `specs/Lines.antt` has
 // the lines.
+#![tactic(auto)]
+
 ghost use Rattle.std.specs.Prelude.{◌≡◌, [], ◌∷◌, ◌+◌, ◌≤◌, ◌<◌, min, length};
 ghost use Rattle.lines.specs.Bytes.{greater};
 ghost use Rattle.lines.specs.Lines.{decimal, Wrote, WroteLine, each_after, joined, unknown_line, heading};

@@ -1,4 +1,6 @@
 // Load control: insert, decision and split in one call. All is judged before anything is written.
+#![tactic(auto)]
+
 ghost use Rattle.std.specs.Prelude.{◌≡◌, true, ◌+◌, ◌*◌, ◌≤◌, ◌<◌, length};
 ghost use Rattle.address.specs.Limits.{first_buckets, no_bucket, most_buckets, most_slots};
 ghost use Rattle.address.specs.Load.{percent};
@@ -24,7 +26,7 @@ use file::Header;
 use route::{End, Opened, Walk};
 
 // Whether a split was not due, done, or due in a file that has its most buckets.
-#[derive(Drop)]
+#[derive(Clone, Copy)]
 pub enum Control {
     NotDue,
     Done,
@@ -32,14 +34,14 @@ pub enum Control {
 }
 
 // The regions of a split: both sound, or the first that is not.
-#[derive(Drop)]
+#[derive(Clone, Copy)]
 pub enum Regions {
     Sound,
     Unsound(u32),
 }
 
 // The reply, whether a split was done, and its answer: the old bucket and the new; with 7 of the split the unsound one.
-#[derive(Drop)]
+#[derive(Clone, Copy)]
 pub struct LoadAnswer {
     pub reply: u8,
     pub split: Control,

@@ -1,5 +1,7 @@
 // The order in which a scan visits the buckets. Numbers only: a message's level follows from its bucket's number, so
 // the list of the buckets that were sent a message is all that a scan has to remember.
+#![tactic(auto)]
+
 ghost use Rattle.std.specs.Prelude.{◌≡◌, ℕ, ◌+◌, ◌-◌, ◌≤◌, ◌<◌, length};
 ghost use Rattle.address.specs.Limits.{first_buckets};
 ghost use Rattle.address.specs.Room.{Room, ImageRoom};

@@ -1,4 +1,6 @@
 // Insert and search: what they come to, and what is written.
+#![tactic(auto)]
+
 ghost use Rattle.std.specs.Prelude.{◌≡◌, true, ◌+◌, ◌≤◌, ◌<◌, length};
 ghost use Rattle.bucket.specs.Region.{Ride, count_of, ride_at};
 ghost use Rattle.file.specs.File.{slots_of, buckets_of, region_of, bucket_sound_in, with_ride};

@@ -1,4 +1,6 @@
 // The program: commands from standard input, a line each, and a line for each to standard output.
+#![tactic(auto)]
+
 mod session;
 
 ghost use Rattle.std.specs.Prelude.{◌≡◌, length};

@@ -1,4 +1,6 @@
 // A client's refusals, a key's route, and the client's image after it.
+#![tactic(auto)]
+
 ghost use Rattle.std.specs.Prelude.{◌≡◌, true, ◌++◌, ◌∷◌, [], ◌+◌, ◌*◌, ◌≤◌, ◌<◌, length};
 ghost use Rattle.address.specs.Limits.{first_buckets, most_level, most_buckets};
 ghost use Rattle.address.specs.Room.{ImageRoom};
@@ -16,7 +18,7 @@ use address::{Fate, Image};
 use file::Header;
 
 // The buckets that a key has met, at most three.
-#[derive(Drop)]
+#[derive(Clone, Copy)]
 pub struct Walk {
     pub count: u32,
     pub first: u32,
@@ -25,7 +27,7 @@ pub struct Walk {
 }
 
 // Where a walk ended: 7 at an unsound bucket, else 0 and then the slot that holds the key there, or the count.
-#[derive(Drop)]
+#[derive(Clone, Copy)]
 pub struct End {
     pub reply: u8,
     pub bucket: u32,
@@ -136,7 +138,7 @@ pub fn refusal(file: &[u8], table: &[u8], client: u64) -> u8
 }
 
 // What a call starts with: the header and the client's image.
-#[derive(Drop)]
+#[derive(Clone, Copy)]
 pub struct Opened {
     pub header: Header,
     pub image: Image,

@@ -1,5 +1,7 @@
 // The scan of one lift: the buckets are judged in number order and their matches counted, then both lists are written,
 // in visit order. Only so many matches are noted meanwhile that the memory taken is the same for every file.
+#![tactic(auto)]
+
 ghost use Rattle.std.specs.Prelude.{◌≡◌, true, ◌+◌, ◌^◌, ◌≤◌, ◌<◌, length, set};
 ghost use Rattle.address.specs.Limits.{first_buckets};
 ghost use Rattle.address.specs.Rules.First.{better};
@@ -19,7 +21,7 @@ use file::Header;
 
 // A scan's reply, the unsound bucket with 7, and how many entries each list got.
 #[repr(C)]
-#[derive(Drop)]
+#[derive(Clone, Copy)]
 pub struct ScanAnswer {
     pub reply: u32,
     pub bucket: u32,
@@ -35,7 +37,7 @@ const NOTES: usize = 1792;
 const FEW_NOTES: usize = 64;
 
 // Whether every bucket is sound, the lowest that is not, and how many keys match if all are.
-#[derive(Drop)]
+#[derive(Clone, Copy)]
 struct Tally {
     sound: bool,
     lowest: u32,

@@ -1,4 +1,6 @@
 // One command of a session: run on a file and its clients, and its line written.
+#![tactic(auto)]
+
 ghost use Rattle.std.specs.Prelude.{List, ℕ, ◌+◌, ◌≤◌, length};
 ghost use Rattle.lines.specs.Lines.{line_room};
 ghost use Rattle.commands.specs.Text.{command_of};

@@ -1,4 +1,6 @@
 // The calls on a whole file but the split: create, check and view.
+#![tactic(auto)]
+
 ghost use Rattle.std.specs.Prelude.{◌≡◌, true, ◌≤◌, ◌<◌, length};
 ghost use Rattle.address.specs.Rules.{«at»};
 ghost use Rattle.layout.specs.Bytes.{edit};
@@ -10,7 +12,7 @@ use file::Header;
 
 // A check's reply, and the lowest unsound region with 7.
 #[repr(C)]
-#[derive(Drop)]
+#[derive(Clone, Copy)]
 pub struct CheckAnswer {
     pub reply: u32,
     pub bucket: u32,

@@ -1,0 +1,13 @@
+-- `address::level_of` goes by the rule's cases: below the pointer, born of a split, or neither.
+use Rattle.std.proofs.Common.{rules}
+use Rattle.address.specs.Rules.Cases.{level_passed, level_new, level_same}
+use Rattle.address.proofs.level_of.Goals as goal
+
+pub returns-then-bucket-image : goal.returns-then-bucket-image
+returns-then-bucket-image c = search level_passed
+
+pub returns-then-span-bucket : goal.returns-then-span-bucket
+returns-then-span-bucket c = search level_new
+
+pub returns : goal.returns
+returns c = search level_same
