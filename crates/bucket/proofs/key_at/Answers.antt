@@ -1,0 +1,8 @@
+-- `bucket::key_at`: eight bytes behind a slot's mark.
+use mathlib.Core.Path.{sym, ◌∙◌}
+use Rattle.bucket.specs.Region.Judge.{key_is}
+use Rattle.std.proofs.Common.{rules}
+use Rattle.bucket.proofs.key_at.Goals as goal
+
+pub returns : goal.returns
+returns c = c.read8.ensures ∙ sym (key_is c.args.region.now c.args.slot)

@@ -1,0 +1,38 @@
+-- `bucket::slots_paired`: the slots so far fit and their keys are distinct; each turn adds one slot whose key is not
+-- found before it. In the end the key asked for is found among them all.
+use Rattle.std.proofs.Common.{rules}
+use Prim.Native.Nat.{◌-◌, ◌≤◌}
+use mathlib.Core.Path.{◌≡◌}
+use mathlib.Core.Bool.{true}
+use native.Mathlib.Omega.{arith}
+use Rattle.address.specs.Rules.{keeps}
+use Rattle.layout.specs.Bytes.{all_below}
+use Rattle.layout.specs.Bytes.Tests.{all_none}
+use Rattle.bucket.specs.Region.{rides_from, keys_of, distinct}
+use Rattle.bucket.specs.Region.Judge.{fitting}
+use Rattle.bucket.specs.Region.Single.{single_none}
+use Rattle.bucket.specs.Region.Told.{slot_unfit, paired_double, slot_next, paired_next, paired_done}
+use Rattle.bucket.proofs.slots_paired.Goals as goal
+
+pub loop-k-init : goal.loop-k-init
+loop-k-init c = let a = c.args in (
+      omega arith,
+      all_none (fitting (keeps a.first a.bucket a.level) a.region.now),
+      single_none a.region.now,
+    )
+
+pub returns-then-not-slot_fits : goal.returns-then-not-slot_fits
+returns-then-not-slot_fits c = search slot_unfit
+
+pub returns-then-find-k : goal.returns-then-find-k
+returns-then-find-k c = search paired_double
+
+pub loop-k-preserved : goal.loop-k-preserved
+loop-k-preserved c = let l = c.loop-k in (
+      omega arith,
+      search slot_next,
+      paired_next _ _ l.invariant.2 c.key_at-held.ensures c.find.ensures c.if-find-k.false,
+    )
+
+pub returns : goal.returns
+returns c = search paired_done
