@@ -1,0 +1,22 @@
+-- `division::part_rides`: the rides so far are parted; each turn writes one behind both groups and counts it to one.
+use Rattle.std.proofs.Common.{rules}
+use Prim.Native.Nat.{◌-◌}
+use Rattle.address.specs.Rules.{keeps}
+use Rattle.bucket.specs.Region.Divide.{Parted, parted_none}
+use Rattle.bucket.specs.Region.Divide.{parted_done}
+use Rattle.bucket.specs.Region.Divide.{stay_fits, part_next}
+use Rattle.division.proofs.part_rides.Goals as goal
+
+pub loop-k-init : goal.loop-k-init
+loop-k-init c = let a = c.args in
+    parted_none (keeps a.first a.home a.level) a.bytes.now a.slots a.old a.new a.count
+
+pub overflow_add-stay-in-loop-k : goal.overflow_add-stay-in-loop-k
+overflow_add-stay-in-loop-k c = search stay_fits
+
+pub loop-k-preserved : goal.loop-k-preserved
+loop-k-preserved c = part_next _ _ _ _ _ _ _ _ c.requires.1 c.loop-k.invariant c.loop-k-test.true
+    c.read8-key.ensures c.hash.ensures.0 c.copy_slot.ensures c.copy_slot-in-loop-k.ensures c.chosen-stay.ensures
+
+pub returns : goal.returns
+returns c = search parted_done

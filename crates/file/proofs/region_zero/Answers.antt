@@ -1,0 +1,6 @@
+-- `file::region_zero` tests the region that is cut out.
+use Rattle.std.proofs.Common.{rules}
+use Rattle.file.proofs.region_zero.Goals as goal
+
+pub returns : goal.returns
+returns c = cc
