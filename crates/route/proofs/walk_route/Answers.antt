@@ -1,0 +1,29 @@
+-- `route::walk_route`: what is noted and what is still to come are the route from the first bucket; each bucket keeps
+-- the key, sends it on or is unsound.
+use Rattle.std.proofs.Common.{rules}
+use Prim.Native.Nat.{◌≤◌, ◌-◌}
+use Rattle.route.specs.Way.Route.{Walking, way_from, behind_room, level_room, walk_starts, walk_there, walk_keeps}
+use Rattle.route.specs.Way.Route.{walk_stops, walk_sends, walk_short, walked_way}
+use Rattle.file.specs.File.Region.{known_standing}
+use Rattle.route.proofs.walk_route.Goals as goal
+
+pub address-bucket-requires : goal.address-bucket-requires
+address-bucket-requires c = search behind_room
+
+pub loop-next-init : goal.loop-next-init
+loop-next-init c = (search rules, search walk_starts)
+
+pub judge_bucket-judged-requires : goal.judge_bucket-judged-requires
+judge_bucket-judged-requires c = search (known_standing, walk_there)
+
+pub fate_at-fate-requires : goal.fate_at-fate-requires
+fate_at-fate-requires c = search level_room
+
+pub returns-in-Keep : goal.returns-in-Keep
+returns-in-Keep c = search (walked_way, walk_keeps)
+
+pub loop-next-preserved : goal.loop-next-preserved
+loop-next-preserved c = (search walk_short, search walk_sends)
+
+pub returns-in-Unsound : goal.returns-in-Unsound
+returns-in-Unsound c = search (walked_way, walk_stops)

@@ -1,0 +1,12 @@
+-- `upkeep::put_file` writes zeros, the header over them and the first bucket's region: the created file.
+use Rattle.file.specs.File.Create.{create_room, created_written}
+use Rattle.std.proofs.Common.{rules}
+use Rattle.upkeep.proofs.put_file.Goals as goal
+
+pub slice_bounds-renew-end : goal.slice_bounds-renew-end
+slice_bounds-renew-end c = search create_room
+
+pub returns : goal.returns
+returns c = let a = c.args in
+    created_written a.capacity a.slots a.most a.file.now c.requires c.clear.ensures
+    c.put_figures.ensures c.renew.ensures

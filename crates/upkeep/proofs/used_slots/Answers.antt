@@ -1,0 +1,19 @@
+-- `upkeep::used_slots` reads a sound bucket's count and cuts that many slots out of the file: the view.
+use native.Mathlib.Omega.{arith}
+use Rattle.file.specs.File.Region.{known_fits, known_there, view_fits, view_used}
+use Rattle.std.proofs.Common.{rules}
+use Rattle.upkeep.proofs.used_slots.Goals as goal
+
+pub read2-requires : goal.read2-requires
+read2-requires c = let a = c.args in
+    let there = known_there a.file.now a.header c.requires.0 c.requires.1 in
+    omega (
+      arith,
+      known_fits a.file.now a.header c.requires.0 a.bucket c.start-at.result c.start-at.ensures.0 there,
+    )
+
+pub slice_bounds-result-end : goal.slice_bounds-result-end
+slice_bounds-result-end c = search view_fits
+
+pub returns : goal.returns
+returns c = search view_used
