@@ -1,0 +1,17 @@
+-- `ride::finish_insert` adjusts the image, and places the ride unless its key is held or no slot is free.
+use borrow.Author.Tests.{leb-false}
+use Rattle.ride.specs.Call.Replied.{insert_held, insert_full, insert_done}
+use Rattle.std.proofs.Common.{rules}
+use Rattle.ride.proofs.finish_insert.Goals as goal
+
+pub returns-then-held : goal.returns-then-held
+returns-then-held c = search insert_held
+
+pub returns-then-full : goal.returns-then-full
+returns-then-full c = search insert_full
+
+pub put_placed-requires : goal.put_placed-requires
+put_placed-requires c = (search, search, search, search, search, search, search, search leb-false)
+
+pub returns : goal.returns
+returns c = search insert_done

@@ -1,0 +1,24 @@
+-- `scan::put_matches`: the matches of the buckets that are left, written behind those that stand there, make the whole
+-- write.
+use Rattle.std.proofs.Common.{rules}
+use Prim.Native.Nat.{◌-◌}
+use lib.ListN.{length}
+use Rattle.scan.specs.Scan.Fill.{Written, write_none, write_few, write_room, write_more, write_done}
+use Rattle.scan.specs.Scan.Notes.{noted_sound}
+use Rattle.scan.specs.Scan.Way.{way_exists}
+use Rattle.scan.proofs.put_matches.Goals as goal
+
+pub loop-k-init : goal.loop-k-init
+loop-k-init c = search write_none
+
+pub bits_of-bits-requires : goal.bits_of-bits-requires
+bits_of-bits-requires c = (search rules, search way_exists, search rules)
+
+pub put_bucket-filled-requires : goal.put_bucket-filled-requires
+put_bucket-filled-requires c = (search rules, search way_exists, search (noted_sound, way_exists), search write_few, search write_room)
+
+pub loop-k-preserved : goal.loop-k-preserved
+loop-k-preserved c = search write_more
+
+pub returns : goal.returns
+returns c = search write_done
