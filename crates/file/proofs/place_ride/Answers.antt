@@ -3,14 +3,16 @@ use Rattle.layout.specs.Bytes.{Bytes}
 use Rattle.file.specs.File.Write.{ride_lent}
 use Rattle.bucket.specs.Region.{Whole}
 use Rattle.file.specs.File.Region.{known_fits, known_there}
-use Rattle.std.proofs.Common.{rules}
+use Rattle.std.proofs.Common.{rules, ℕ, get_or, Fits, w8}
 use Rattle.file.proofs.place_ride.Goals as goal
 
 pub slice_bounds-place-end : goal.slice_bounds-place-end
 slice_bounds-place-end c = search (known_fits, known_there)
 
 pub returns : goal.returns
-returns c = let bytes : Bytes c.args.file.now = λ k. (c.slice_known-1.given k).fits in
+returns c =
+    let fits : (k : ℕ) → Fits w8 (get_or c.args.file.now k 0) = search rules in
+    let bytes : Bytes c.args.file.now = λ k. (fits k).fits in
     let whole : Whole (record { key = c.args.key; payload = c.args.payload.now }) =
-    record { small = c.ranges.key.fits; long = c.requires.5; bytes = λ k. (c.shared_slice_known-1.given k).fits } in
+    record { small = c.ranges.key.fits; long = c.requires.5; bytes = λ k. (c.type_inv.payload k).fits } in
     (search rules, search ride_lent)
