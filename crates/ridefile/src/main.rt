@@ -3,7 +3,10 @@
 
 mod session;
 
-ghost use Rattle.std.specs.Prelude.{◌≡◌, length};
+ghost use Rattle.std.specs.Prelude.{◌≡◌, ◌≤◌, length, IfOk};
+
+use std::io;
+use std::io::{Read, Write};
 
 // Room for all that 4,096 bytes of input can print: 32 bytes for each.
 fn output() -> [u8; 131072]
@@ -12,10 +15,25 @@ fn output() -> [u8; 131072]
     [0; 131072]
 }
 
-fn main() {
-    let mut input = io::buffer();
-    let length = io::read_full(libc::STDIN_FILENO, &mut input);
+// Reads until the buffer is full or the input ends, and says how many bytes were put at the buffer's start.
+fn read_full<R: Read>(reader: &mut R, buffer: &mut [u8]) -> io::Result<usize>
+    ensures { IfOk result (λ n. n ≤ length buffer.new) }
+{
+    let mut filled = 0;
+    while filled < buffer.len() {
+        let more = reader.read(&mut buffer[filled..])?;
+        if more == 0 {
+            return Ok(filled);
+        }
+        filled += more;
+    }
+    Ok(filled)
+}
+
+fn main(rt: HostRuntime) -> io::Result<()> {
+    let mut input = [0u8; 4096];
+    let length = read_full(&mut rt.reader(), &mut input)?;
     let mut out = output();
     let end = session::run(&input[..length], &mut out);
-    io::write_all(libc::STDOUT_FILENO, &out[..end]);
+    io::writer(&rt).write_all(&out[..end])
 }

@@ -8,8 +8,8 @@ use Rattle.address.proofs.span.Goals as goal
 
 pub returns : goal.returns
 returns c = rw (span_shift c.args.first c.args.level c.requires 4294967296 (omega arith)) (
-      refl,
-      span_pos c.args.first c.requires.some c.args.level,
-      span_room c.args.first c.args.level
-          c.requires,
-    )
+  refl,
+  span_pos c.args.first c.requires.some c.args.level,
+  span_room c.args.first c.args.level
+      c.requires,
+)

@@ -15,10 +15,10 @@ use Rattle.bucket.proofs.slots_chained.Goals as goal
 
 pub loop-k-init : goal.loop-k-init
 loop-k-init c = let a = c.args in (
-      all_none (fitting (keeps a.first a.bucket a.level) a.region.now),
-      chain_none a.region.now
-          a.count a.latest.now a.before.now c.requires.3 c.requires.4,
-    )
+  all_none (fitting (keeps a.first a.bucket a.level) a.region.now),
+  chain_none a.region.now
+      a.count a.latest.now a.before.now c.requires.3 c.requires.4,
+)
 
 pub returns-then-not-slot_fits : goal.returns-then-not-slot_fits
 returns-then-not-slot_fits c = search slot_unfit

@@ -16,10 +16,10 @@ use Rattle.bucket.proofs.slots_paired.Goals as goal
 
 pub loop-k-init : goal.loop-k-init
 loop-k-init c = let a = c.args in (
-      omega arith,
-      all_none (fitting (keeps a.first a.bucket a.level) a.region.now),
-      single_none a.region.now,
-    )
+  omega arith,
+  all_none (fitting (keeps a.first a.bucket a.level) a.region.now),
+  single_none a.region.now,
+)
 
 pub returns-then-not-slot_fits : goal.returns-then-not-slot_fits
 returns-then-not-slot_fits c = search slot_unfit
@@ -29,10 +29,10 @@ returns-then-find-k c = search paired_double
 
 pub loop-k-preserved : goal.loop-k-preserved
 loop-k-preserved c = let l = c.loop-k in (
-      omega arith,
-      search slot_next,
-      paired_next _ _ l.invariant.2 c.key_at-held.ensures c.find.ensures c.if-find-k.false,
-    )
+  omega arith,
+  search slot_next,
+  paired_next _ _ l.invariant.2 c.key_at-held.ensures c.find.ensures c.if-find-k.false,
+)
 
 pub returns : goal.returns
 returns c = search paired_done

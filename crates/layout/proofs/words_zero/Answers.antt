@@ -15,10 +15,10 @@ loop-k-init c = (omega arith, sym (all_none (λ (i : ℕ). eqb (get_or c.args.by
 
 pub loop-k-preserved : goal.loop-k-preserved
 loop-k-preserved c = let l = c.loop-k in (
-      omega arith,
-      words_more c.args.bytes.now l.k l.seen c.read8-seen.result
-          l.invariant.1 c.read8-seen.ensures,
-    )
+  omega arith,
+  words_more c.args.bytes.now l.k l.seen c.read8-seen.result
+      l.invariant.1 c.read8-seen.ensures,
+)
 
 pub returns : goal.returns
 returns c = let a = c.args in

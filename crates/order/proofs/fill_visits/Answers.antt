@@ -18,11 +18,11 @@ send_on-tail-requires c = visiting_room c.loop-handled.invariant.1 c.buckets-cou
 
 pub loop-handled-preserved : goal.loop-handled-preserved
 loop-handled-preserved c = (
-      omega arith,
-      visiting_next c.loop-handled.invariant.1 c.buckets-count.ensures
-          c.loop-handled-test.true c.message_level-told.ensures c.level_of-own.ensures
-          c.send_on-tail.ensures.0 c.send_on-tail.ensures.1,
-    )
+  omega arith,
+  visiting_next c.loop-handled.invariant.1 c.buckets-count.ensures
+      c.loop-handled-test.true c.message_level-told.ensures c.level_of-own.ensures
+      c.send_on-tail.ensures.0 c.send_on-tail.ensures.1,
+)
 
 pub returns : goal.returns
 returns c = search visiting_done

@@ -20,10 +20,10 @@ loop-k-init c = (
 
 pub loop-k-preserved : goal.loop-k-preserved
 loop-k-preserved c = let l = c.loop-k in (
-      omega arith,
-      omega (arith, length-set l.queue l.k l.k),
-      writing_more l.invariant.2 (numbers_cons l.k c.args.count c.loop-k-test.true),
-    )
+  omega arith,
+  omega (arith, length-set l.queue l.k l.k),
+  writing_more l.invariant.2 (numbers_cons l.k c.args.count c.loop-k-test.true),
+)
 
 pub returns : goal.returns
 returns c = let l = c.loop-k in

@@ -14,12 +14,12 @@ use Rattle.order.proofs.send_on.Goals as goal
 
 pub loop-level-init : goal.loop-level-init
 loop-level-init c = let a = c.args in (
-      omega arith,
-      refl,
-      refl,
-      writing_start _ a.tail refl
-          (omega (arith, born_length first_buckets a.bucket a.told (a.own - a.told))),
-    )
+  omega arith,
+  refl,
+  refl,
+  writing_start _ a.tail refl
+      (omega (arith, born_length first_buckets a.bucket a.told (a.own - a.told))),
+)
 
 pub child-requires : goal.child-requires
 child-requires c = let a = c.args in

@@ -46,10 +46,10 @@ overflow_add-slot c = let short = keys_few c.requires.0 c.args.bucket c.requires
 
 pub loop-left-smaller : goal.loop-left-smaller
 loop-left-smaller c = omega (
-      arith,
-      fill_within c.loop-left.invariant (keys_few c.requires.0 c.args.bucket c.requires.2)
-          c.loop-left-test.true,
-    )
+  arith,
+  fill_within c.loop-left.invariant (keys_few c.requires.0 c.args.bucket c.requires.2)
+      c.loop-left-test.true,
+)
 
 pub loop-left-preserved : goal.loop-left-preserved
 loop-left-preserved c = let a = c.args in
