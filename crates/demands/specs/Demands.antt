@@ -15,13 +15,6 @@ use Rattle.demands.specs.Run.{Memory, Call, Insert, InsertSplit, Search, AllType
 use Rattle.demands.specs.Run.{after, run, replied, conditions, Finds, Accepted, Kept, Ready}
 use Rattle.demands.specs.Run.{sent, Reached, VisitsOnce, believed, wrong_first, forwards_of}
 use Rattle.demands.specs.Run.{summed, NotJoined, started, FromNothing}
-use Rattle.demands.specs.Run.Clients.{ready_run, each_run, sent_reaches, scan_once}
-use Rattle.demands.specs.Run.Clients.{wrong_sends, forwards_summed}
-use Rattle.demands.specs.Run.Fresh.{fresh_ready, fresh_believes, fresh_empty, finds_accepted}
-use Rattle.demands.specs.Run.Held.{whole_run, run_finds}
-use Rattle.demands.specs.Run.Replied.{call_replies, call_untouched, insert_adjusted}
-use Rattle.demands.specs.Run.Replied.{load_adjusted, insert_untouched, load_untouched}
-use Rattle.demands.specs.Run.Replied.{search_untouched}
 
 -- Demand 1. Every entry point takes anything at all, judges it itself and gives exactly the
 -- numbered reply that document 01 fixes, first match wins. A refusal changes nothing but what 01
@@ -65,20 +58,6 @@ pub record Demand1 (m : Memory) : Type 0 where
       × ((scan m.file m.table client lift visits matches).visit_list ≡ visits)
       × ((scan m.file m.table client lift visits matches).match_list ≡ matches)
 
-pub demand_1 : (m : Memory) → Demand1 m
-demand_1 m = record {
-  replies = call_replies m;
-  create_replies = create_reply m.file;
-  untouched = call_untouched m;
-  adjusted = insert_adjusted m;
-  load_adjusted = load_adjusted m;
-  create_untouched = create_left m.file;
-  insert_block = insert_untouched m;
-  load_block = load_untouched m;
-  search_block = search_untouched m;
-  scan_lists = scan_refused m.file m.table;
-}
-
 -- Demand 2. In a sound file, with any table whatever, after any run: a search that is not refused
 -- finds exactly the rides held at the start and those accepted since, each with its payload, across
 -- any splits; and the file is sound.
@@ -87,13 +66,6 @@ pub record Demand2 (m : Memory) (calls : List Call) : Type 0 where
   pub found : (client key : ℕ) (answer : List ℕ)
       → replied (run m calls) (Search client key answer) ≤ 1
       → Finds key (search (run m calls).file (run m calls).table client key answer) (Kept m calls)
-
-pub demand_2 : (m : Memory) → Bytes m.file → file_sound m.file ≡ true
-    → (calls : List Call) → AllTyped calls → Demand2 m calls
-demand_2 m bytes sound calls typed = record {
-  sound = (whole_run m bytes sound calls typed).sound;
-  found = run_finds m bytes sound calls typed;
-}
 
 -- Demand 3. In any run of a sound file and a sound table with no client ahead: all of that holds
 -- again after it, and so after each call of it; every key that is sent reaches its own bucket in at
@@ -108,19 +80,6 @@ pub record Demand3 (m : Memory) (calls : List Call) : Type 0 where
       → summed (wrong_first client) m calls ≤ buckets_of (run m calls).file - believed client m
   pub forwarded : (client : ℕ) → exists m.table client ≡ true → NotJoined client calls
       → summed (forwards_of client) m calls ≤ 2 * (buckets_of (run m calls).file - believed client m)
-
-pub demand_3 : (m : Memory) → Ready m → (calls : List Call) → AllTyped calls → Demand3 m calls
-demand_3 m ready calls typed = record {
-  ready = ready_run m ready calls typed;
-  reached = each_run (λ now call. Reached now (sent now call)) sent_reaches m ready calls typed;
-  scanned = each_run VisitsOnce (λ now still call. scan_once now call) m ready calls typed;
-  wrong = λ client there old. omega (arith, wrong_sends client m ready there calls typed old);
-  forwarded = λ client there old. omega (
-    arith,
-    wrong_sends client m ready there calls typed old,
-    forwards_summed client m ready calls typed,
-  );
-}
 
 -- From nothing. A file that create has just made, every client of the table joined, any run: what
 -- demands 2 and 3 ask for is there, so both hold. Nothing is held at the start, and a client
@@ -137,32 +96,3 @@ pub record Demanded (m : Memory) (calls : List Call) : Type 0 where
       → summed (wrong_first client) m calls ≤ buckets_of (run m calls).file - first_buckets
   pub forwarded : (client : ℕ) → exists m.table client ≡ true → NotJoined client calls
       → summed (forwards_of client) m calls ≤ 2 * (buckets_of (run m calls).file - first_buckets)
-
-module _ (file table : List ℕ) (b S M : ℕ) (clients : List ℕ)
-    (given : FromNothing file table b S M clients) where
-  pub ready_from_nothing : Ready (started file table b S M clients)
-  ready_from_nothing = fresh_ready file table b S M clients given
-
-  pub from_nothing : (calls : List Call) → AllTyped calls
-      → Demanded (started file table b S M clients) calls
-  from_nothing calls typed =
-      let m = started file table b S M clients in
-      let ready = ready_from_nothing in
-      let second = demand_2 m ready.bytes ready.file_sound_lem calls typed in
-      let third = demand_3 m ready calls typed in
-      record {
-        second = second;
-        third = third;
-        found = λ client key answer low. finds_accepted m calls
-            (second.found client key answer low) (fresh_empty file table b S M clients given);
-        wrong = λ client there old. omega (
-          arith,
-          third.wrong client there old,
-          fresh_believes file table b S M clients given client there,
-        );
-        forwarded = λ client there old. omega (
-          arith,
-          third.forwarded client there old,
-          fresh_believes file table b S M clients given client there,
-        );
-      }

@@ -238,8 +238,8 @@ pub record Finds (key : ℕ) (outcome : Outcome) (Has : Ride → Type 0) : Type 
 -- A sound file and a sound table with no client ahead.
 pub record Ready (m : Memory) : Type 0 where
   pub bytes : Bytes m.file
-  pub file_sound_lem : file_sound m.file ≡ true
-  pub table_sound_lem : table_sound m.table ≡ true
+  pub file_is_sound : file_sound m.file ≡ true
+  pub table_is_sound : table_sound m.table ≡ true
   pub none_ahead : (client : ℕ) → exists m.table client ≡ true
       → NotAhead first_buckets (state_of m.file) (image_of m.table client)
 

@@ -8,8 +8,9 @@ use Rattle.address.specs.declared.Image.{Image}
 use Rattle.address.specs.Room.{Room, ImageRoom}
 use Rattle.address.specs.Rules.{Formed, NotAhead, buckets, level, child, numbers, visits}
 use Rattle.address.specs.Rules.Cases.{level_high}
-use Rattle.address.specs.Rules.Scan.{visits_length}
-use Rattle.address.specs.Rules.Order.{born, born_length, Told, Scanning, Answered, scanning_start, scanning_few}
+use Rattle.address.proofs.Rules.Scan.{visits_length}
+use Rattle.address.specs.Rules.Order.{born, born_length, Told, Scanning, Answered, scanning_few}
+use Rattle.address.proofs.Rules.Order.{scanning_start}
 use Rattle.address.specs.Rules.Order.{scanning_waits, scanning_next, scanning_done}
 use Rattle.address.specs.Rules.Earlier.{numbers_length}
 use Rattle.layout.specs.Bytes.{edit}
@@ -21,7 +22,7 @@ pub record Scannable (state image : Image) : Type 0 where
   pub room : ImageRoom first_buckets state
   pub image_room : ImageRoom first_buckets image
   pub formed : Formed first_buckets state
-  pub image_formed_lem : Formed first_buckets image
+  pub image_formed : Formed first_buckets image
   pub behind : NotAhead first_buckets state image
   pub few : buckets first_buckets state ≤ 65536
 
@@ -96,7 +97,7 @@ visiting_start before {state} {image} {queue} {tail} known et room e = record {
   under_way = rw
       (ap (take tail) e ∙ take_edited 0 (numbers 0 tail) before fits tail (omega (arith, numbers_length 0 tail))
       ∙ ap (numbers 0) et)
-      (scanning_start first_buckets some_first state known.formed image known.image_formed_lem known.behind);
+      (scanning_start first_buckets some_first state known.formed image known.image_formed known.behind);
 }
   where
     fits : 0 + length (numbers 0 tail) ≤ length before
@@ -118,11 +119,11 @@ module _ {state image : Image} {begun : List ℕ} {start : ℕ} {queue : List �
       ∙ sym (edit_is 0 (visits first_buckets state image) before)
     where
       order : take handled (take tail queue) ≡ visits first_buckets state image
-      order = scanning_done first_buckets some_first state known.formed image known.image_formed_lem known.behind
+      order = scanning_done first_buckets some_first state known.formed image known.image_formed known.behind
           handled (take tail queue) so.under_way (omega arith)
 
       long : length (visits first_buckets state image) ≡ buckets first_buckets state
-      long = visits_length first_buckets some_first state known.formed image known.image_formed_lem known.behind
+      long = visits_length first_buckets some_first state known.formed image known.image_formed known.behind
 
       whole : tail ≡ handled
       whole = omega (
@@ -156,13 +157,13 @@ module _ {state image : Image} {begun : List ℕ} {start : ℕ} {queue : List �
     reached : handled < tail
     reached = omega (
       arith,
-      scanning_waits first_buckets some_first state known.formed image known.image_formed_lem known.behind handled
+      scanning_waits first_buckets some_first state known.formed image known.image_formed known.behind handled
           (take tail queue) so.under_way (omega arith),
       length-take tail queue,
     )
 
     answered : Answered first_buckets state image handled (take tail queue) a l
-    answered = scanning_next first_buckets some_first state known.formed image known.image_formed_lem known.behind
+    answered = scanning_next first_buckets some_first state known.formed image known.image_formed known.behind
         handled (take tail queue) so.under_way (omega arith) a l (sym (get_or-take tail queue handled 0 reached)) told
 
     next : Scanning first_buckets state image (handled + 1) (take tail queue ++ born first_buckets a l (j - l))
@@ -171,7 +172,7 @@ module _ {state image : Image} {begun : List ℕ} {start : ℕ} {queue : List �
     few : tail + (j - l) ≤ buckets first_buckets state
     few = omega (
       arith,
-      scanning_few first_buckets some_first state known.formed image known.image_formed_lem known.behind
+      scanning_few first_buckets some_first state known.formed image known.image_formed known.behind
           (handled + 1) (take tail queue ++ born first_buckets a l (j - l)) next,
       length-append (take tail queue) (born first_buckets a l (j - l)),
       length-take tail queue,
@@ -235,4 +236,4 @@ visits_read {state} {image} before {after} known e = ap (take (buckets first_buc
     ∙ front_written (visits first_buckets state image) before
   where
     long : length (visits first_buckets state image) ≡ buckets first_buckets state
-    long = visits_length first_buckets some_first state known.formed image known.image_formed_lem known.behind
+    long = visits_length first_buckets some_first state known.formed image known.image_formed known.behind

@@ -1,4 +1,4 @@
--- A scan's visits are in the order that `earlier` tells from two numbers alone. AllOf bucket that was sent a message is
+-- A scan's visits are in the order that `earlier` tells from two numbers alone. Every bucket that was sent a message is
 -- believed in or has its parent among those that have handled theirs; so the children of the next one come after all
 -- that were sent one before, the lower first.
 use Prim.Native.Nat.{ℕ, zero, suc, ◌+◌, ◌-◌, ◌≤◌, ◌<◌}
@@ -19,14 +19,14 @@ use Rattle.address.specs.Rules.Hash.{span_is, span_suc, span_mono, span_pos, spa
 use Rattle.address.specs.Rules.Cases.{buckets_is, child_is}
 use Rattle.address.specs.Rules.Address.{level_spans}
 use Rattle.address.specs.Rules.Parent.{parent_of}
-use Rattle.address.specs.Rules.Scan.{times, times_none, times_here, times_there, visits_only, visits_length}
-use Rattle.address.specs.Rules.Order.{born, born_cons, born_none, Told, Scanning, scanning_start, scanning_few}
+use Rattle.address.specs.Rules.Scan.{times, times_none, times_here, times_there}
+use Rattle.address.specs.Rules.Order.{born, born_cons, born_none, Told, Scanning, scanning_few}
 use Rattle.address.specs.Rules.Order.{scanning_waits, scanning_next, scanning_done, child_later}
 
 -- ---- which of two buckets is first, by its cases
 
 -- a number stands between two spans
-between_spans : (N x : ℕ) → 0 < N → N ≤ x → (k : ℕ) × (span N k ≤ x) × (x < span N (suc k))
+pub between_spans : (N x : ℕ) → 0 < N → N ≤ x → (k : ℕ) × (span N k ≤ x) × (x < span N (suc k))
 between_spans N x positive some = go x 0 (omega (arith, span_is N 0))
     (omega (arith, span_above N positive x, same_span))
   where
@@ -158,11 +158,11 @@ abbrev pub AllOf : (ℕ → Type 0) → List ℕ → Type 0
 AllOf P [] = Unit {0}
 AllOf P (x ∷ xs) = P x × AllOf P xs
 
-each_append : (P : ℕ → Type 0) (xs ys : List ℕ) → AllOf P xs → AllOf P ys → AllOf P (xs ++ ys)
+pub each_append : (P : ℕ → Type 0) (xs ys : List ℕ) → AllOf P xs → AllOf P ys → AllOf P (xs ++ ys)
 each_append P [] ys ex ey = ey
 each_append P (x ∷ xs) ys ex ey = (ex.0, each_append P xs ys ex.1 ey)
 
-each_map : (P Q : ℕ → Type 0) → ((x : ℕ) → P x → Q x) → (xs : List ℕ) → AllOf P xs → AllOf Q xs
+pub each_map : (P Q : ℕ → Type 0) → ((x : ℕ) → P x → Q x) → (xs : List ℕ) → AllOf P xs → AllOf Q xs
 each_map P Q f [] e = tt
 each_map P Q f (x ∷ xs) e = (f x e.0, each_map P Q f xs e.1)
 
@@ -230,7 +230,7 @@ ordered_more N believed (x ∷ xs) y o e = (
 
 module _ (N : ℕ) (positive : 0 < N) (believed : ℕ) (first : N ≤ believed) where
   -- numbers that are believed in are in order
-  numbers_ordered : (a c : ℕ) → a + c ≤ believed → Ordered N believed (numbers a c)
+  pub numbers_ordered : (a c : ℕ) → a + c ≤ believed → Ordered N believed (numbers a c)
   unfolding numbers
   numbers_ordered a zero h = tt
   numbers_ordered a (suc c) h = (
@@ -240,7 +240,7 @@ module _ (N : ℕ) (positive : 0 < N) (believed : ℕ) (first : N ≤ believed) 
   )
 
   -- What is known of a bucket x that was sent a message before y is, a child of bucket a.
-  abbrev Sooner : ℕ → ℕ → ℕ → Type 0
+  abbrev pub Sooner : ℕ → ℕ → ℕ → Type 0
   Sooner a y x = (x < believed) ⊎ ((earlier N believed (parent N x) a ≡ true) ⊎ ((parent N x ≡ a) × (x < y)))
 
   sooner_earlier : (a y x : ℕ) → believed ≤ y → parent N y ≡ a → Sooner a y x → earlier N believed x y ≡ true
@@ -267,7 +267,7 @@ module _ (N : ℕ) (positive : 0 < N) (believed : ℕ) (first : N ≤ believed) 
       ∙ ap₂ (λ (k n : ℕ). child N a m ∷ born N a k n) (add-one m) rest
 
   -- the children of a bucket follow all that were sent a message before them
-  born_ordered : (a c m : ℕ) (xs : List ℕ) → a < span N m → ((k : ℕ) → m ≤ k → believed ≤ child N a k)
+  pub born_ordered : (a c m : ℕ) (xs : List ℕ) → a < span N m → ((k : ℕ) → m ≤ k → believed ≤ child N a k)
       → Ordered N believed xs → AllOf (Sooner a (child N a m)) xs → Ordered N believed (xs ++ born N a m c)
   born_ordered a zero m xs low past o s = rw (born_none N a m 0 refl, append-nil xs) o
   born_ordered a (suc c) m xs low past o s =
@@ -295,118 +295,7 @@ module _ (N : ℕ) (positive : 0 < N) (believed : ℕ) (first : N ≤ believed) 
       later x (inr (inr e)) = inr (inr (e.0, omega (arith, e.1, higher)))
 
   -- and bucket a is their parent
-  born_parent : (a m c : ℕ) → a < span N m → AllOf (λ x. parent N x ≡ a) (born N a m c)
+  pub born_parent : (a m c : ℕ) → a < span N m → AllOf (λ x. parent N x ≡ a) (born N a m c)
   born_parent a m zero low = rw (born_none N a m 0 refl) tt
   born_parent a m (suc c) low = rw (born_suc a m c)
       (parent_child N positive a m low, born_parent a (suc m) c (omega (arith, span_suc N m)))
-
-module _ (N : ℕ) (positive : 0 < N) (file : Image) (formed : Formed N file)
-    (image : Image) (image_formed : Formed N image) (behind : NotAhead N file image) where
-  -- every bucket has a message level, and its number is below the span of it
-  told_of : (a : ℕ) → (l : ℕ) × Told N image a l × (a < span N l)
-  told_of a = ⊎_elim believed not_believed (below a (buckets N image))
-    where
-      believed : a < buckets N image → (l : ℕ) × Told N image a l × (a < span N l)
-      believed h = (
-        level N image a,
-        record { believed = λ b. refl; under = λ b. absurd (omega arith); above = λ b. absurd (omega arith) },
-        level_spans N positive image image_formed a h,
-      )
-
-      not_believed : buckets N image ≤ a → (l : ℕ) × Told N image a l × (a < span N l)
-      not_believed h =
-          let (k, low, high) = between_spans N a positive (omega (arith, first_believed N image)) in (
-            suc k,
-            record {
-              believed = λ b. absurd (omega arith);
-              under = λ b. high;
-              above = λ b. omega (arith, span_suc N k);
-            },
-            high,
-          )
-
-  -- The first h of the buckets that were sent a message have handled theirs: a bucket is believed in or was born of one
-  -- of them.
-  abbrev Caused : ℕ → List ℕ → ℕ → Type 0
-  Caused h sent x = (x < buckets N image) ⊎ ((j : ℕ) × (j < h) × (parent N x ≡ get_or sent j 0))
-
-  record Queued (h : ℕ) (sent : List ℕ) : Type 0 where
-    under_way : Scanning N file image h sent
-    order : Ordered N (buckets N image) sent
-    caused : AllOf (Caused h sent) sent
-
-  queued_start : Queued 0 (numbers 0 (buckets N image))
-  queued_start = record {
-    under_way = scanning_start N positive file formed image image_formed behind;
-    order = numbers_ordered N positive (buckets N image) (first_believed N image) 0 (buckets N image) (omega arith);
-    caused = numbers_each (Caused 0 (numbers 0 (buckets N image))) 0 (buckets N image)
-        (λ x low high. inl (omega arith));
-  }
-
-  module _ (h : ℕ) (sent : List ℕ) (so : Queued h sent) (more : h < buckets N file) where
-    waits : h < length sent
-    waits = scanning_waits N positive file formed image image_formed behind h sent so.under_way more
-
-    queued_next : (a l c : ℕ) → a ≡ get_or sent h 0 → Told N image a l → a < span N l
-        → Scanning N file image (suc h) (sent ++ born N a l c) → Queued (suc h) (sent ++ born N a l c)
-    queued_next a l c ea told low next = record {
-      under_way = next;
-      order = born_ordered N positive (buckets N image) (first_believed N image) a c l sent low
-          (λ k up. child_later N image image_formed a l k told up) so.order
-          (each_map (Caused h sent) (Sooner N positive (buckets N image) (first_believed N image) a (child N a l))
-          sooner sent
-          so.caused);
-      caused = each_append (Caused (suc h) after) sent (born N a l c)
-          (each_map (Caused h sent) (Caused (suc h) after) kept sent so.caused)
-          (each_map (λ x. parent N x ≡ a) (Caused (suc h) after)
-          (λ x e. inr (h, omega arith, e ∙ ea ∙ sym (stays h waits))) (born N a l c)
-          (born_parent N positive (buckets N image) (first_believed N image) a l c low));
-    }
-      where
-        after : List ℕ
-        after = sent ++ born N a l c
-
-        stays : (j : ℕ) → j < length sent → get_or after j 0 ≡ get_or sent j 0
-        stays j there = get_or-append sent (born N a l c) 0 j there
-
-        sooner : (x : ℕ) → Caused h sent x
-            → Sooner N positive (buckets N image) (first_believed N image) a (child N a l) x
-        sooner x (inl b) = inl b
-        sooner x (inr (j, done, e)) = inr
-            (inl (rw (e, ea) (ordered_at N (buckets N image) sent j h so.order done waits)))
-
-        kept : (x : ℕ) → Caused h sent x → Caused (suc h) after x
-        kept x (inl b) = inl b
-        kept x (inr (j, done, e)) = inr (j, omega arith, e ∙ sym (stays j (omega (arith, waits))))
-
-  queued_done : (c h : ℕ) (sent : List ℕ) → h + c ≡ buckets N file → Queued h sent
-      → Ordered N (buckets N image) (visits N file image)
-  queued_done zero h sent all so = subst (Ordered N (buckets N image))
-      (sym (take_all h sent
-      (omega (arith, scanning_few N positive file formed image image_formed behind h sent so.under_way)))
-      ∙ scanning_done N positive file formed image image_formed behind h sent so.under_way (omega arith))
-      so.order
-  queued_done (suc c) h sent all so =
-      let a : ℕ = get_or sent h 0 in
-      let (l, told, low) = told_of a in
-      let answered = scanning_next N positive file formed image image_formed behind h sent so.under_way (omega arith)
-      a l refl told in
-      queued_done c (suc h) (sent ++ born N a l (level N file a - l)) (omega arith)
-      (queued_next h sent so (omega arith) a l (level N file a - l) refl told low answered.next)
-
-  -- the visits of a scan are in order
-  pub visits_ordered : Ordered N (buckets N image) (visits N file image)
-  visits_ordered = queued_done (buckets N file) 0 (numbers 0 (buckets N image)) (omega arith) queued_start
-
-  -- by places
-  pub visits_earlier : (p q : ℕ) → p < q → q < buckets N file
-      → earlier N (buckets N image) (get_or (visits N file image) p 0) (get_or (visits N file image) q 0) ≡ true
-  visits_earlier p q h there = ordered_at N (buckets N image) (visits N file image) p q visits_ordered h
-      (omega (arith, visits_length N positive file formed image image_formed behind))
-
-  -- a property of all buckets is one of each visit
-  pub visits_each : (P : ℕ → Type 0) → ((x : ℕ) → x < buckets N file → P x) → AllOf P (visits N file image)
-  visits_each P f = each_all P (visits N file image)
-      (λ x h. ⊎_elim (f x)
-      (λ past. absurd (omega (arith, visits_only N positive file formed image image_formed behind x past)))
-      (below x (buckets N file)))

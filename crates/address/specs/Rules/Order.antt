@@ -19,7 +19,7 @@ use Rattle.address.specs.Rules.{sends, answers, handled, messages, visits}
 use Rattle.address.specs.Rules.Hash.{span_is, span_suc, span_mono, span_pos}
 use Rattle.address.specs.Rules.Cases.{buckets_is, child_is, level_split, level_born, level_rest}
 use Rattle.address.specs.Rules.Scan.{AllGood, total, total_nil, child_good, next_good, next_total, waiting_total}
-use Rattle.address.specs.Rules.Scan.{opening_good, opening_total}
+use Rattle.address.specs.Rules.Scan.{visits_is, messages_is, opening_is}
 
 -- numbers in a row by the first of them
 pub numbers_cons : (a e : ℕ) → a < e → numbers a (e - a) ≡ a ∷ numbers (a + 1) (e - (a + 1))
@@ -93,7 +93,7 @@ module _ (N : ℕ) (image : Image) (a : ℕ) where
   told_single : (l m : ℕ) → Told N image a l → Told N image a m → l ≡ m
   told_single l m tl tm = omega (arith, not_higher l m tl tm, not_higher m l tm tl)
 
-abbrev AllTold : ℕ → Image → List Message → Type 0
+abbrev pub AllTold : ℕ → Image → List Message → Type 0
 AllTold N image [] = Unit {0}
 AllTold N image (m ∷ queue) = Told N image m.to m.level × AllTold N image queue
 
@@ -131,7 +131,7 @@ module _ (N : ℕ) (image : Image) (image_formed : Formed N image) where
     sends_told a r l (suc m) c t (omega arith) (omega (arith, span_suc N m)),
   )
 
-  sent_told : (a c : ℕ) → a + c ≤ buckets N image
+  pub sent_told : (a c : ℕ) → a + c ≤ buckets N image
       → AllTold N image (map (λ b. message b (level N image b) 0) (numbers a c))
   unfolding numbers
   sent_told a zero h = tt
@@ -139,7 +139,7 @@ module _ (N : ℕ) (image : Image) (image_formed : Formed N image) where
       (told_believed N image a (level N image a) (omega arith) refl, sent_told (suc a) c (omega arith))
 
 -- messages by the buckets that they are for
-abbrev receivers : List Message → List ℕ
+abbrev pub receivers : List Message → List ℕ
 receivers queue = map (λ m. m.to) queue
 
 receivers_append : (p q : List Message) → receivers (p ++ q) ≡ receivers p ++ receivers q
@@ -151,7 +151,7 @@ unfolding sends born
 sends_born N a r m zero = refl
 sends_born N a r m (suc c) = ap (λ (l : List ℕ). child N a m ∷ l) (sends_born N a r (suc m) c)
 
-sent_numbers : (N : ℕ) (image : Image) (a c : ℕ)
+pub sent_numbers : (N : ℕ) (image : Image) (a c : ℕ)
     → receivers (map (λ b. message b (level N image b) 0) (numbers a c)) ≡ numbers a c
 unfolding numbers
 sent_numbers N image a zero = refl
@@ -159,16 +159,16 @@ sent_numbers N image a (suc c) = ap (λ (l : List ℕ). a ∷ l) (sent_numbers N
 
 -- A scan under way: of the buckets that were sent a message, in this order, the first h have handled it, and the rest
 -- wait.
-record Waits (N : ℕ) (file image : Image) (h : ℕ) (sent : List ℕ) (waiting : List Message) : Type 0 where
-  good : AllGood N file image.level waiting
-  told : AllTold N image waiting
-  weighs : h + total N waiting (buckets N file) ≡ buckets N file
-  rest : drop h sent ≡ receivers waiting
-  whole : visits N file image ≡ take h sent ++ receivers (handled N file (buckets N file - h) waiting)
+pub record Waits (N : ℕ) (file image : Image) (h : ℕ) (sent : List ℕ) (waiting : List Message) : Type 0 where
+  pub good : AllGood N file image.level waiting
+  pub told : AllTold N image waiting
+  pub weighs : h + total N waiting (buckets N file) ≡ buckets N file
+  pub rest : drop h sent ≡ receivers waiting
+  pub whole : visits N file image ≡ take h sent ++ receivers (handled N file (buckets N file - h) waiting)
 
 pub record Scanning (N : ℕ) (file image : Image) (h : ℕ) (sent : List ℕ) : Type 0 where
-  waiting : List Message
-  waits : Waits N file image h sent waiting
+  pub waiting : List Message
+  pub waits : Waits N file image h sent waiting
 
 -- What the next bucket a, with message level l, tells: its children exist, and the scan goes on with them.
 pub record Answered (N : ℕ) (file image : Image) (h : ℕ) (sent : List ℕ) (a l : ℕ) : Type 0 where
@@ -177,20 +177,6 @@ pub record Answered (N : ℕ) (file image : Image) (h : ℕ) (sent : List ℕ) (
 
 module _ (N : ℕ) (positive : 0 < N) (file : Image) (formed : Formed N file)
     (image : Image) (image_formed : Formed N image) (behind : NotAhead N file image) where
-  -- at first the client's messages wait
-  pub scanning_start : Scanning N file image 0 (numbers 0 (buckets N image))
-  unfolding visits messages opening
-  scanning_start = record {
-    waiting = opening N image;
-    waits = record {
-      good = opening_good N positive file formed image image_formed behind;
-      told = sent_told N image image_formed 0 (buckets N image) (omega arith);
-      weighs = omega (arith, opening_total N positive file formed image image_formed behind);
-      rest = sym (sent_numbers N image 0 (buckets N image));
-      whole = ap (λ (n : ℕ). receivers (handled N file n (opening N image))) (omega arith);
-    };
-  }
-
   module _ (h : ℕ) (sent : List ℕ) (so : Scanning N file image h sent) where
     -- no more are sent to than there are
     pub scanning_few : length sent ≤ buckets N file

@@ -11,10 +11,8 @@ use Rattle.std.specs.Int.Count.{count_leading_zeros}
 use Rattle.std.proofs.lemmas.Nat.{leading_top}
 use Rattle.address.specs.Compare.{below}
 use Rattle.address.specs.Limits.{no_bucket}
-use Rattle.address.specs.declared.Image.{Image}
-use Rattle.address.specs.Rules.{Formed, span, newborn, top_span, parent}
+use Rattle.address.specs.Rules.{span, top_span, parent}
 use Rattle.address.specs.Rules.Hash.{span_is, span_suc, span_mono, span_above}
-use Rattle.address.specs.Rules.Cases.{newborn_is}
 
 pub parent_none : (N b : ℕ) → b < N → parent N b ≡ no_bucket
 unfolding parent
@@ -42,13 +40,6 @@ module _ (N : ℕ) (positive : 0 < N) (b k : ℕ) (above : span N k ≤ b) (unde
     where
       first : 0 ≤ k
       first = omega arith
-
--- the new bucket of a split was born of the bucket that was split
-pub parent_newborn : (N : ℕ) → 0 < N → (s : Image) → Formed N s → parent N (newborn N s) ≡ s.pointer
-parent_newborn N positive s formed =
-    parent_of N positive (newborn N s) s.level (omega (arith, newborn_is N s))
-    (omega (arith, newborn_is N s, span_suc N s.level))
-    ∙ omega (arith, newborn_is N s)
 
 -- The leading zeros of a number of 32 bits tell the power of two to take off.
 pub record ByZeros (b : ℕ) : Type 0 where

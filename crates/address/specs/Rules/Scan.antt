@@ -57,7 +57,7 @@ bit_iff x y u v both = ⊎_elim
     (same x y)
 
 -- How many waiting messages lead to bucket x.
-weight : ℕ → ℕ → List Message → ℕ
+pub weight : ℕ → ℕ → List Message → ℕ
 weight N x [] = 0
 weight N x (m ∷ queue) = bit (eqb (hash N m.level x) m.to) + weight N x queue
 
@@ -81,7 +81,7 @@ unfolding total
 total_append N p q zero = refl
 total_append N p q (suc n) = omega (arith, total_append N p q n, weight_append N n p q)
 
-total_ones : (N : ℕ) (queue : List Message) → ((x : ℕ) → weight N x queue ≡ 1) → (n : ℕ) → total N queue n ≡ n
+pub total_ones : (N : ℕ) (queue : List Message) → ((x : ℕ) → weight N x queue ≡ 1) → (n : ℕ) → total N queue n ≡ n
 unfolding total
 total_ones N queue one zero = refl
 total_ones N queue one (suc n) = omega (arith, total_ones N queue one n, one n)
@@ -237,7 +237,7 @@ module _ (N : ℕ) (positive : 0 < N) (file : Image) (formed : Formed N file) wh
     )
 
     -- with room for the whole weight, each bucket is visited as often as it weighs
-    handled_times : (most : ℕ) (queue : List Message) → AllGood N file base queue
+    pub handled_times : (most : ℕ) (queue : List Message) → AllGood N file base queue
         → total N queue (buckets N file) ≤ most
         → (x : ℕ) → x < buckets N file → times x (map (λ m. m.to) (handled N file most queue)) ≡ weight N x queue
     unfolding handled times weight
@@ -251,7 +251,7 @@ module _ (N : ℕ) (positive : 0 < N) (file : Image) (formed : Formed N file) wh
           there,
     )
 
-    handled_length : (most : ℕ) (queue : List Message) → AllGood N file base queue
+    pub handled_length : (most : ℕ) (queue : List Message) → AllGood N file base queue
         → total N queue (buckets N file) ≤ most
         → length (handled N file most queue) ≡ total N queue (buckets N file)
     unfolding handled
@@ -265,7 +265,7 @@ module _ (N : ℕ) (positive : 0 < N) (file : Image) (formed : Formed N file) wh
     )
 
     -- and no more room than that is ever used
-    handled_enough : (most other : ℕ) (queue : List Message) → AllGood N file base queue
+    pub handled_enough : (most other : ℕ) (queue : List Message) → AllGood N file base queue
         → total N queue (buckets N file) ≤ most → total N queue (buckets N file) ≤ other
         → handled N file most queue ≡ handled N file other queue
     unfolding handled
@@ -281,7 +281,7 @@ module _ (N : ℕ) (positive : 0 < N) (file : Image) (formed : Formed N file) wh
         (omega (arith, next_total m queue g.0)) (omega (arith, next_total m queue g.0)))
 
     -- whatever is handled is good
-    handled_good : (most : ℕ) (queue : List Message) → AllGood N file base queue
+    pub handled_good : (most : ℕ) (queue : List Message) → AllGood N file base queue
         → AllGood N file base (handled N file most queue)
     unfolding handled
     handled_good zero queue g = tt
@@ -289,7 +289,7 @@ module _ (N : ℕ) (positive : 0 < N) (file : Image) (formed : Formed N file) wh
     handled_good (suc most) (m ∷ queue) g = (g.0, handled_good most (queue ++ answers N file m) (next_good m queue g))
 
 -- a number past a list of smaller ones stands nowhere in it
-times_good : (N : ℕ) (file : Image) (base : ℕ) (queue : List Message) → AllGood N file base queue → (x : ℕ)
+pub times_good : (N : ℕ) (file : Image) (base : ℕ) (queue : List Message) → AllGood N file base queue → (x : ℕ)
     → buckets N file ≤ x
     → times x (map (λ m. m.to) queue) ≡ 0
 unfolding times
@@ -317,7 +317,7 @@ pub highest_level : (N : ℕ) (file : Image) (a : ℕ) → a < buckets N file �
 unfolding highest
 highest_level N file a exists = greatest_at (level N file) 0 (buckets N file) a (omega arith) (omega arith)
 
-rounds_good : (N : ℕ) (file : Image) (base : ℕ) (queue : List Message) → AllGood N file base queue
+pub rounds_good : (N : ℕ) (file : Image) (base : ℕ) (queue : List Message) → AllGood N file base queue
     → greatest (map (λ m. m.round) queue) ≤ highest N file - base
 unfolding greatest
 rounds_good N file base [] g = omega arith
@@ -329,9 +329,28 @@ rounds_good N file base (m ∷ queue) g = omega (
   highest_level N file m.to g.0.exists,
 )
 
+-- The definitions of the opening and of what a scan handles, visits and lasts.
+pub opening_is : (N : ℕ) (image : Image)
+    → opening N image ≡ map (λ a. message a (level N image a) 0) (numbers 0 (buckets N image))
+unfolding opening
+opening_is N image = refl
+
+pub messages_is : (N : ℕ) (file image : Image) → messages N file image ≡ handled N file (buckets N file) (opening N image)
+unfolding messages
+messages_is N file image = refl
+
+pub visits_is : (N : ℕ) (file image : Image) → visits N file image ≡ map (λ m. m.to) (messages N file image)
+unfolding visits
+visits_is N file image = refl
+
+pub last_round_is : (N : ℕ) (file image : Image)
+    → last_round N file image ≡ greatest (map (λ m. m.round) (messages N file image))
+unfolding last_round
+last_round_is N file image = refl
+
 module _ (N : ℕ) (positive : 0 < N) (file : Image) (formed : Formed N file)
     (image : Image) (image_formed : Formed N image) (behind : NotAhead N file image) where
-  sent_good : (a c : ℕ) → a + c ≤ buckets N image
+  pub sent_good : (a c : ℕ) → a + c ≤ buckets N image
       → AllGood N file image.level (map (λ b. message b (level N image b) 0) (numbers a c))
   unfolding numbers
   sent_good a zero h = tt
@@ -345,12 +364,8 @@ module _ (N : ℕ) (positive : 0 < N) (file : Image) (formed : Formed N file)
     sent_good (suc a) c (omega arith),
   )
 
-  pub opening_good : AllGood N file image.level (opening N image)
-  unfolding opening
-  opening_good = sent_good 0 (buckets N image) (omega arith)
-
   -- the opening weighs 1 at every bucket: the one that the client takes for its address
-  sent_past : (x a c : ℕ) → address N image x < a → a + c ≤ buckets N image
+  pub sent_past : (x a c : ℕ) → address N image x < a → a + c ≤ buckets N image
       → weight N x (map (λ b. message b (level N image b) 0) (numbers a c)) ≡ 0
   unfolding weight numbers
   sent_past x a zero past h = refl
@@ -361,7 +376,7 @@ module _ (N : ℕ) (positive : 0 < N) (file : Image) (formed : Formed N file)
         (λ e. omega (arith, (address_own N positive image image_formed a x (omega arith)).1 e)),
   )
 
-  sent_weight : (x a c : ℕ) → a ≤ address N image x → address N image x < a + c → a + c ≤ buckets N image
+  pub sent_weight : (x a c : ℕ) → a ≤ address N image x → address N image x < a + c → a + c ≤ buckets N image
       → weight N x (map (λ b. message b (level N image b) 0) (numbers a c)) ≡ 1
   unfolding weight numbers
   sent_weight x a zero low high h = absurd (omega arith)
@@ -378,43 +393,3 @@ module _ (N : ℕ) (positive : 0 < N) (file : Image) (formed : Formed N file)
             (λ l. e ((address_own N positive image image_formed a x (omega arith)).1 l)),
       ))
       (same (address N image x) a)
-
-  opening_weight : (x : ℕ) → weight N x (opening N image) ≡ 1
-  unfolding opening
-  opening_weight x = sent_weight x 0 (buckets N image) (omega arith)
-      (omega (arith, address_exists N positive image image_formed x)) (omega arith)
-
-  -- and so the whole weight is the room that there is
-  pub opening_total : total N (opening N image) (buckets N file) ≡ buckets N file
-  opening_total = total_ones N (opening N image) opening_weight (buckets N file)
-
-  -- each bucket of the file is visited exactly once
-  pub visits_once : (x : ℕ) → x < buckets N file → times x (visits N file image) ≡ 1
-  unfolding visits messages
-  visits_once x there = handled_times N positive file formed image.level (buckets N file) (opening N image)
-      opening_good (omega (arith, opening_total)) x there
-      ∙ opening_weight x
-
-  -- and nothing else is
-  pub visits_only : (x : ℕ) → buckets N file ≤ x → times x (visits N file image) ≡ 0
-  unfolding visits messages
-  visits_only x past = times_good N file image.level (messages N file image)
-      (handled_good N positive file formed image.level (buckets N file) (opening N image) opening_good) x past
-
-  pub visits_length : length (visits N file image) ≡ buckets N file
-  unfolding visits messages
-  visits_length = length-map (messages N file image) (λ m. m.to)
-      ∙ handled_length N positive file formed image.level (buckets N file) (opening N image) opening_good
-      (omega (arith, opening_total)) ∙ opening_total
-
-  -- the bound of the recursion cuts nothing: with more room the same is handled
-  pub scan_whole : (most : ℕ) → buckets N file ≤ most → handled N file most (opening N image) ≡ messages N file image
-  unfolding messages
-  scan_whole most room = handled_enough N positive file formed image.level most (buckets N file) (opening N image)
-      opening_good (omega (arith, opening_total)) (omega (arith, opening_total))
-
-  -- the last round is at most the highest bucket level less i'
-  pub rounds : last_round N file image ≤ highest N file - image.level
-  unfolding last_round messages
-  rounds = rounds_good N file image.level (messages N file image)
-      (handled_good N positive file formed image.level (buckets N file) (opening N image) opening_good)

@@ -9,9 +9,9 @@ use Rattle.std.proofs.Math.Logic.{⊎_elim}
 use Rattle.address.specs.Compare.{same}
 use Rattle.address.specs.declared.Image.{Image}
 use Rattle.address.specs.Rules.{Formed, NotAhead, buckets, numbers, visits}
-use Rattle.address.specs.Rules.Scan.{times, times_none, times_here, times_there, visits_once}
+use Rattle.address.specs.Rules.Scan.{times, times_none, times_here, times_there}
 use Rattle.address.specs.Rules.Order.{numbers_cons, numbers_none}
-use Rattle.address.specs.Rules.Earlier.{AllOf, visits_each, numbers_each}
+use Rattle.address.specs.Rules.Earlier.{AllOf}
 
 -- The sum of a figure of each number in a list.
 pub sum_of : (ℕ → ℕ) → List ℕ → ℕ
@@ -36,7 +36,7 @@ pub sum_done : (f : ℕ → ℕ) (k end : ℕ) → end ≤ k → sum_of f (numbe
 sum_done f k end h = ap (sum_of f) (numbers_none k (end - k) (omega arith)) ∙ sum_none f
 
 -- The figures of the numbers below n, each as often as it stands in a list.
-counted : (ℕ → ℕ) → List ℕ → ℕ → ℕ
+pub counted : (ℕ → ℕ) → List ℕ → ℕ → ℕ
 counted f xs zero = 0
 counted f xs (suc n) = counted f xs n + times n xs * f n
 
@@ -65,13 +65,13 @@ module _ (f : ℕ → ℕ) where
       there e so = rw (times_there n x xs e) (omega (arith, so))
 
   -- a list of numbers below n
-  sum_counted : (xs : List ℕ) (n : ℕ) → AllOf (λ x. x < n) xs → sum_of f xs ≡ counted f xs n
+  pub sum_counted : (xs : List ℕ) (n : ℕ) → AllOf (λ x. x < n) xs → sum_of f xs ≡ counted f xs n
   unfolding sum_of
   sum_counted [] n e = sym (counted_none n)
   sum_counted (x ∷ xs) n e = omega (arith, sum_counted xs n e.1, counted_cons x xs n e.0)
 
   -- two lists in which every number below n stands equally often
-  counted_same : (xs ys : List ℕ) (n : ℕ) → ((x : ℕ) → x < n → times x xs ≡ times x ys)
+  pub counted_same : (xs ys : List ℕ) (n : ℕ) → ((x : ℕ) → x < n → times x xs ≡ times x ys)
       → counted f xs n ≡ counted f ys n
   unfolding counted
   counted_same xs ys zero s = refl
@@ -84,22 +84,10 @@ numbers_lower x a zero h = times_none x
 numbers_lower x a (suc c) h = times_there x a (numbers (suc a) c) (omega arith)
     ∙ numbers_lower x (suc a) c (omega arith)
 
-numbers_once : (x a c : ℕ) → a ≤ x → x < a + c → times x (numbers a c) ≡ 1
+pub numbers_once : (x a c : ℕ) → a ≤ x → x < a + c → times x (numbers a c) ≡ 1
 unfolding numbers
 numbers_once x a zero low high = absurd (omega arith)
 numbers_once x a (suc c) low high = ⊎_elim
     (λ e. times_here x a (numbers (suc a) c) e ∙ ap suc (numbers_lower x (suc a) c (omega (arith, e))))
     (λ e. times_there x a (numbers (suc a) c) e ∙ numbers_once x (suc a) c (omega (arith, e)) (omega arith))
     (same x a)
-
--- a sum over the visits is the sum over all buckets
-pub visits_sum : (N : ℕ) → 0 < N → (file : Image) → Formed N file → (image : Image) → Formed N image
-    → NotAhead N file image → (f : ℕ → ℕ) → sum_of f (visits N file image) ≡ sum_of f (numbers 0 (buckets N file))
-visits_sum N positive file formed image image_formed behind f =
-    sum_counted f (visits N file image) (buckets N file)
-    (visits_each N positive file formed image image_formed behind (λ x. x < buckets N file) (λ x h. h))
-    ∙ counted_same f (visits N file image) (numbers 0 (buckets N file)) (buckets N file)
-    (λ x h. visits_once N positive file formed image image_formed behind x h
-    ∙ sym (numbers_once x 0 (buckets N file) (omega arith) (omega arith)))
-    ∙ sym (sum_counted f (numbers 0 (buckets N file)) (buckets N file)
-    (numbers_each (λ x. x < buckets N file) 0 (buckets N file) (λ x low high. omega arith)))

@@ -15,7 +15,7 @@ use Rattle.address.specs.Limits.{first_buckets}
 use Rattle.address.specs.Load.{threshold_fits}
 use Rattle.address.specs.declared.Image.{Image}
 use Rattle.address.specs.Rules.{«at», Formed, NotAhead, address, buckets, image_after, route, forwards}
-use Rattle.address.specs.Rules.Adjust.{after_more}
+use Rattle.address.proofs.Rules.Adjust.{after_more}
 use Rattle.address.specs.Rules.Cases.{buckets_is}
 use Rattle.address.specs.Rules.Hash.{span_is, span_pos}
 use Rattle.address.specs.Rules.Route.{Delivered, delivered, forwards_is, forwards_short, route_right, first_right}
@@ -34,7 +34,7 @@ use Rattle.route.specs.Way.Route.{way_route, cut_none}
 use Rattle.ride.specs.Call.{adjusted_table}
 use Rattle.ride.specs.Call.Keeping.{adjusted_image, adjusted_other, adjusted_exists, adjusted_kept}
 use Rattle.ride.specs.Call.Left.{search_ways, insert_ways}
-use Rattle.load.specs.Load.Left.{load_ways}
+use Rattle.load.proofs.Load.Left.{load_ways}
 use Rattle.load.specs.Load.Decision.{room_on}
 use Rattle.demands.specs.Run.{Memory, Call, Join, Insert, InsertSplit, Search, Split, Scan, Check, View, Parent}
 use Rattle.demands.specs.Run.{Typed, AllTyped, Each, left, left_loaded, after, run, replied, answered, visited}
@@ -55,7 +55,7 @@ record Behind (call : Call) (file table now : List ℕ) : Type 0 where
 module _ (m : Memory) (ready : Ready m) where
   as_it_was : (call : Call) (now : List ℕ) → now ≡ m.table → Behind call m.file m.table now
   as_it_was call now e = subst (Behind call m.file m.table) (sym e) (record {
-    sound = ready.table_sound_lem;
+    sound = ready.table_is_sound;
     none_ahead = ready.none_ahead;
     there = λ client. refl;
     grows = λ client old there. omega arith;
@@ -75,7 +75,7 @@ module _ (m : Memory) (ready : Ready m) where
     adjusted_behind : (call : Call) → Behind call m.file m.table now
     unfolding now next image
     adjusted_behind call = record {
-      sound = adjusted_kept m.file m.table client key open_to ready.table_sound_lem;
+      sound = adjusted_kept m.file m.table client key open_to ready.table_is_sound;
       none_ahead = λ other there. by_cases (ℕ_discrete other client)
           (λ e. subst (λ (x : ℕ). NotAhead first_buckets (state_of m.file) (image_of now x)) (sym e)
           (subst (NotAhead first_buckets (state_of m.file))
@@ -118,7 +118,7 @@ module _ (m : Memory) (ready : Ready m) where
   join_behind : (client : ℕ) → reply (table_refusals m.table client) 0 ≡ 0
       → Behind (Join client) m.file m.table (with_image m.table client («at» 0 0))
   join_behind client none = record {
-    sound = table_kept m.table client («at» 0 0) fits (omega arith) first_formed ready.table_sound_lem;
+    sound = table_kept m.table client («at» 0 0) fits (omega arith) first_formed ready.table_is_sound;
     none_ahead = λ other there. by_cases (ℕ_discrete other client)
         (λ e. subst
         (λ (x : ℕ). NotAhead first_buckets (state_of m.file) (image_of (with_image m.table client («at» 0 0)) x))
@@ -184,12 +184,12 @@ module _ (m : Memory) (ready : Ready m) where
   -- all of it holds again after the call
   pub ready_step : (call : Call) → Typed call → Ready (after m call)
   ready_step call typed =
-      let grown = step m ready.bytes ready.file_sound_lem call typed in
+      let grown = step m ready.bytes ready.file_is_sound call typed in
       let behind = table_step call in
       record {
         bytes = grown.bytes;
-        file_sound_lem = grown.sound;
-        table_sound_lem = behind.sound;
+        file_is_sound = grown.sound;
+        table_is_sound = behind.sound;
         none_ahead = λ client there. omega
             (arith, behind.none_ahead client there, grown.up, existing m.file, existing (after m call).file);
       }
@@ -204,7 +204,7 @@ module _ (m : Memory) (ready : Ready m) where
     route_whole : route_of m client key ≡ route first_buckets (state_of m.file) (image_of m.table client) key
     unfolding route_of
     route_whole = cut_none (bucket_sound_in m.file) _
-        (route_sound m.file m.table client key open_to ready.file_sound_lem)
+        (route_sound m.file m.table client key open_to ready.file_is_sound)
         ∙ way_route m.file (image_of m.table client) key
 
     -- it reaches its own bucket in at most two forwards, each to a higher-numbered bucket
@@ -303,7 +303,7 @@ module _ (m : Memory) (ready : Ready m) where
   unfolding after left answered
   inserting client key payload answer fits none = insert_ways m.file m.table client key payload answer
       (λ o. o.table ≡ adjusted_table m.file m.table client key)
-      (λ o r. absurd (r.why (through m.file m.table ready.file_sound_lem _ client key fits none)))
+      (λ o r. absurd (r.why (through m.file m.table ready.file_is_sound _ client key fits none)))
       (λ w held. refl) (λ w free whole. refl) (λ w free room. refl)
 
   loading : (client key : ℕ) (payload : List ℕ) (t : ℕ) (answer : List ℕ)
@@ -315,12 +315,12 @@ module _ (m : Memory) (ready : Ready m) where
       (λ o. o.table ≡ adjusted_table m.file m.table client key)
       (λ o r why. absurd (why (record {
         ranged = and_right (eqb (length answer) 24 && eqb (length payload) 14) _ fits;
-        through = through m.file m.table ready.file_sound_lem _ client key (and_left _ (threshold_fits t) fits)
+        through = through m.file m.table ready.file_is_sound _ client key (and_left _ (threshold_fits t) fits)
             none;
       })))
       (λ w held. refl) (λ w free whole. refl) (λ w control is single. refl) (λ w due judged. refl)
       (λ w due bad o r. absurd (bad (sym (ap (λ (s : SplitOutcome). s.answer)
-      (sound_split m.file ready.file_sound_lem (room_on m.file key t due))))))
+      (sound_split m.file ready.file_is_sound (room_on m.file key t due))))))
 
   searching : (client key : ℕ) (answer : List ℕ) → eqb (length answer) 24 ≡ true
       → reply (early m.file m.table client) 0 ≡ 0
@@ -328,7 +328,7 @@ module _ (m : Memory) (ready : Ready m) where
   unfolding after left answered
   searching client key answer fits none = search_ways m.file m.table client key answer
       (λ o. o.table ≡ adjusted_table m.file m.table client key)
-      (λ o r. absurd (r.why (through m.file m.table ready.file_sound_lem _ client key fits none)))
+      (λ o r. absurd (r.why (through m.file m.table ready.file_is_sound _ client key fits none)))
       (λ w held. refl) (λ w absent. refl)
 
   -- a wrong first send makes the client believe in more, nothing in less unless it joins anew
@@ -399,16 +399,20 @@ believes_some : (client : ℕ) (m : Memory) → Ready m → exists m.table clien
 unfolding believed
 believes_some client m ready there = omega (arith, ready.none_ahead client there, existing m.file)
 
-pub wrong_sends : (client : ℕ) (m : Memory) → Ready m → exists m.table client ≡ true → (calls : List Call)
-    → AllTyped calls → NotJoined client calls
+-- wrong first sends add up, if each call counts for no more than what the client then believes in more
+pub sends_over : (client : ℕ)
+    → ((m : Memory) → Ready m → exists m.table client ≡ true → (call : Call) → (call ≡ Join client → ⊥)
+    → wrong_first client m (sent m call) + believed client m ≤ believed client (after m call))
+    → (m : Memory) → Ready m → exists m.table client ≡ true → (calls : List Call) → AllTyped calls
+    → NotJoined client calls
     → summed (wrong_first client) m calls + believed client m ≤ buckets_of (run m calls).file
 unfolding run AllTyped NotJoined summed
-wrong_sends client m ready there [] typed old = omega (arith, believes_some client m ready there)
-wrong_sends client m ready there (call ∷ calls) typed old =
+sends_over client counts m ready there [] typed old = omega (arith, believes_some client m ready there)
+sends_over client counts m ready there (call ∷ calls) typed old =
     omega (
       arith,
-      step_counts m ready client there call old.0,
-      wrong_sends client (after m call) (ready_step m ready call typed.0)
+      counts m ready there call old.0,
+      sends_over client counts (after m call) (ready_step m ready call typed.0)
           ((table_step m ready call).there client ∙ there) calls typed.1 old.1,
     )
 

@@ -75,8 +75,9 @@ module _ (file table : List ℕ) (b S M : ℕ) (clients : List ℕ) (given : Fro
   fresh = subst Fresh (sym joined.file) (create_fresh file b S M given.made)
 
   -- every client is at its start
-  at_start : (client : ℕ) → exists now.table client ≡ true → AtStart now.table client
-  unfolding made
+  pub at_start : (client : ℕ) → exists (started file table b S M clients).table client ≡ true
+      → AtStart (started file table b S M clients).table client
+  unfolding made now
   at_start client there =
       let was : exists table client ≡ true = sym (same_exists table now.table joined.long client) ∙ there in
       joined.start client was (inr (given.all_joined client was))
@@ -84,29 +85,31 @@ module _ (file table : List ℕ) (b S M : ℕ) (clients : List ℕ) (given : Fro
   one : buckets first_buckets («at» 0 0) ≡ first_buckets
   one = buckets_is first_buckets («at» 0 0) ∙ omega (arith, span_is first_buckets 0)
 
-  pub fresh_ready : Ready (started file table b S M clients)
+  -- with every client at its start the memory is ready, and each client believes in the first buckets
+  pub ready_at : ((client : ℕ) → exists (started file table b S M clients).table client ≡ true
+      → AtStart (started file table b S M clients).table client) → Ready (started file table b S M clients)
   unfolding made now
-  fresh_ready = record {
+  ready_at start = record {
     bytes = fresh.bytes;
-    file_sound_lem = fresh.sound;
-    table_sound_lem = table_whole now.table (same_sound table now.table joined.long ∙ given.long)
-        (λ client there. (at_start client there).sound);
+    file_is_sound = fresh.sound;
+    table_is_sound = table_whole now.table (same_sound table now.table joined.long ∙ given.long)
+        (λ client there. (start client there).sound);
     none_ahead = λ client there. omega (
       arith,
-      ap (buckets first_buckets) (at_start client there).is,
+      ap (buckets first_buckets) (start client there).is,
       ap (buckets first_buckets) fresh.start,
     );
   }
 
-  -- nothing is held, and each client believes in the first buckets
+  pub believes_at : (client : ℕ) → AtStart (started file table b S M clients).table client
+      → believed client (started file table b S M clients) ≡ first_buckets
+  unfolding believed now
+  believes_at client start = ap (buckets first_buckets) start.is ∙ one
+
+  -- nothing is held
   pub fresh_empty : (ride : Ride) → Holds (started file table b S M clients).file ride → ⊥
   unfolding Holds now
   fresh_empty ride (a, there, among) = Memᴰ.not-nil (subst (Memᴰ ride) (fresh.empty a there) among)
-
-  pub fresh_believes : (client : ℕ) → exists (started file table b S M clients).table client ≡ true
-      → believed client (started file table b S M clients) ≡ first_buckets
-  unfolding believed now
-  fresh_believes client there = ap (buckets first_buckets) (at_start client there).is ∙ one
 
 -- where nothing was held at the start, what is kept is what was accepted
 pub finds_accepted : (m : Memory) (calls : List Call) {key : ℕ} {outcome : Outcome}

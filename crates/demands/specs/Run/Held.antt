@@ -14,7 +14,8 @@ use Rattle.std.proofs.Math.Dec.{eqb}
 use Rattle.address.specs.Limits.{first_buckets, most_slots}
 use Rattle.address.specs.Rules.{address, buckets, keeps, splitting, newborn, grown}
 use Rattle.address.specs.Rules.Cases.{keeps_yes}
-use Rattle.address.specs.Rules.Grow.{newborn_next, grown_buckets, divided_cases}
+use Rattle.address.specs.Rules.Grow.{grown_buckets}
+use Rattle.address.proofs.Rules.Grow.{newborn_next, divided_cases}
 use Rattle.address.specs.Rules.Hash.{span_pos}
 use Rattle.layout.specs.Bytes.{Bytes}
 use Rattle.layout.specs.Bytes.Tests.{and_right}
@@ -38,7 +39,8 @@ use Rattle.ride.specs.Call.{Outcome, inserted, count_then, search}
 use Rattle.ride.specs.Call.Left.{Through, search_ways, insert_ways}
 use Rattle.ride.specs.Call.Placing.{own_fresh, own_room, fitting}
 use Rattle.ride.specs.Call.Replied.{count_is, inserted_is}
-use Rattle.load.specs.Load.Left.{Accepting, load_ways}
+use Rattle.load.specs.Load.Left.{Accepting}
+use Rattle.load.proofs.Load.Left.{load_ways}
 use Rattle.demands.specs.Run.{Memory, Call, Join, Insert, InsertSplit, Search, Split, Scan, Check, View, Parent}
 use Rattle.demands.specs.Run.{Typed, AllTyped, left, left_loaded, after, run, replied, answered, Holds, Accepts}
 use Rattle.demands.specs.Run.{Accepted, payload_in, Finds, Kept}

@@ -9,7 +9,8 @@ use Rattle.ride.specs.Call.{Outcome, adjusted_table, search, insert}
 use Rattle.ride.specs.Call.Left.{Refused, search_reply, insert_reply, search_ways, insert_ways}
 use Rattle.scan.specs.Scan.Replied.{scan_reply}
 use Rattle.load.specs.Load.{Loaded, insert_split}
-use Rattle.load.specs.Load.Left.{Spared, load_ways, load_reply}
+use Rattle.load.specs.Load.Left.{Spared, load_reply}
+use Rattle.load.proofs.Load.Left.{load_ways}
 use Rattle.demands.specs.Run.{Memory, Call, Join, Insert, InsertSplit, Search, Split, Scan, Check, View, Parent}
 use Rattle.demands.specs.Run.{left, left_loaded, after, replied, answered, conditions}
 

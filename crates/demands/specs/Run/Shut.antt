@@ -24,7 +24,7 @@ use Rattle.route.specs.Way.Route.{cut_none}
 use Rattle.ride.specs.Call.{count_then, search, insert}
 use Rattle.ride.specs.Call.Left.{Through, search_ways, insert_ways}
 use Rattle.demands.specs.Run.{Memory, Call, Insert, Search, Split, Typed, AllTyped, after, run, replied, answered}
-use Rattle.demands.specs.Run.{payload_in, Accepts, Accepted, Kept, Ready, route_of}
+use Rattle.demands.specs.Run.{payload_in, Finds, Accepts, Accepted, Kept, Ready, route_of}
 use Rattle.demands.specs.Run.Clients.{ready_step, ready_run}
 use Rattle.demands.specs.Run.Held.{payload_held, payload_long, run_finds, through}
 
@@ -117,8 +117,13 @@ module _ (m : Memory) (sound : file_sound m.file ≡ true) where
           let (count, is) = insert_route payload fourteen in
           ap forwards_in is ∙ forwards_block _ count (route_of m client key) no_payload none_long
 
--- what an insert was accepted with is found in any run after it, by any client of the table
-pub stored : (m : Memory) → Ready m → (client key : ℕ) (payload answer : List ℕ)
+-- what an insert was accepted with is found in any run after it, by any client of the table, if a search of a run finds
+-- what is kept
+pub stored_by : (m : Memory) → Ready m
+    → ((calls : List Call) → AllTyped calls → (client key : ℕ) (answer : List ℕ)
+    → replied (run m calls) (Search client key answer) ≤ 1
+    → Finds key (search (run m calls).file (run m calls).table client key answer) (Kept m calls))
+    → (client key : ℕ) (payload answer : List ℕ)
     → Typed (Insert client key payload answer) → replied m (Insert client key payload answer) ≡ 0
     → (calls : List Call) → AllTyped calls → (other : ℕ)
     → exists (run (after m (Insert client key payload answer)) calls).table other ≡ true → (block : List ℕ)
@@ -127,11 +132,11 @@ pub stored : (m : Memory) → Ready m → (client key : ℕ) (payload answer : L
     in (replied now (Search other key block) ≡ 0)
     × (payload_in (search now.file now.table other key block).block ≡ payload)
 unfolding replied answered run AllTyped Kept Accepted Accepts
-stored m ready client key payload answer typed accepted calls typed-too other there block long =
-    ((run_finds m ready.bytes ready.file_sound_lem (Insert client key payload answer ∷ calls) (typed, typed-too) other
+stored_by m ready finds client key payload answer typed accepted calls typed-too other there block long =
+    ((finds (Insert client key payload answer ∷ calls) (typed, typed-too) other
     key block
-    (search_answers now later.file_sound_lem other (sound_length now.table later.table_sound_lem) there
-    (sound_record now.table later.table_sound_lem other there)
+    (search_answers now later.file_is_sound other (sound_length now.table later.table_is_sound) there
+    (sound_record now.table later.table_is_sound other there)
     (later.none_ahead other there) key block long)
     ).present payload).1 (inr (inl (accepted, refl)))
   where

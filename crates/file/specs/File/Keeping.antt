@@ -13,7 +13,8 @@ use Rattle.address.specs.declared.Image.{Image}
 use Rattle.address.specs.Rules.{Formed, address, level, buckets, keeps, splitting, newborn, grown}
 use Rattle.address.specs.Rules.Cases.{level_high}
 use Rattle.address.specs.Rules.Hash.{span_pos}
-use Rattle.address.specs.Rules.Grow.{newborn_next, grown_formed, grown_buckets, level_old, level_newborn, level_other}
+use Rattle.address.specs.Rules.Grow.{grown_formed, grown_buckets}
+use Rattle.address.proofs.Rules.Grow.{newborn_next, level_old, level_newborn, level_other}
 use Rattle.layout.specs.Bytes.{Bytes, all_below, all_zero}
 use Rattle.layout.specs.Bytes.Tests.{and_left, and_right, and_both, all_at, all_of}
 use Rattle.bucket.specs.Region.{Ride, Whole, slot_at, count_of, rides_of, keys_of, distinct, slot_of, bucket_sound, encode}

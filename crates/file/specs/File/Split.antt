@@ -14,7 +14,8 @@ use Rattle.address.specs.Room.{Room}
 use Rattle.address.specs.Rules.{Formed, buckets, address, level, keeps, splitting, newborn, grown}
 use Rattle.address.specs.Rules.Hash.{span_pos}
 use Rattle.address.specs.Rules.Cases.{keeps_yes, keeps_no, newborn_is}
-use Rattle.address.specs.Rules.Grow.{divided_cases, newborn_next, grown_formed, grown_buckets}
+use Rattle.address.specs.Rules.Grow.{grown_formed, grown_buckets}
+use Rattle.address.proofs.Rules.Grow.{divided_cases, newborn_next}
 use Rattle.layout.specs.Bytes.{Bytes, all_zero, edit, part}
 use Rattle.layout.specs.Replies.{refuse, reply, reply_none, reply_here, reply_past}
 use Rattle.bucket.specs.Region.{Ride, slot_at, count_of, rides_of, keys_of, every, encode, kept, halved}

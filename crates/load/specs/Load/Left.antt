@@ -112,9 +112,20 @@ pub together_done : (file table : List ℕ) (client key : ℕ) (first : Outcome)
 unfolding together
 together_done file table client key first judged e = rw (eq-eqb judged.answer 0 e)
 
+-- a threshold out of range leaves table and file as they were
+pub unranged_spared : (file table answer : List ℕ) → Spared file table answer (alone NotDue (unranged file table))
+unfolding unranged
+unranged_spared file table answer = record {
+  some = omega arith;
+  before = (λ z. omega (arith, z), λ z. omega (arith, z));
+  table_left = refl;
+  file_left = refl;
+  block_left = λ z. absurd (omega (arith, z));
+}
+
 module _ (file table : List ℕ) (client key : ℕ) (payload : List ℕ) (t : ℕ) (answer : List ℕ) where
   -- with a threshold in range, or lengths that do not fit, it is insert's outcome and the decision
-  load_is : (b : Bool) → (eqb (length answer) 24 && eqb (length payload) 14 && not (threshold_fits t)) ≡ b
+  pub load_is : (b : Bool) → (eqb (length answer) 24 && eqb (length payload) 14 && not (threshold_fits t)) ≡ b
       → cond b (alone NotDue (unranged file table))
       (controlled file table client key t (insert file table client key payload answer))
       ≡ insert_split file table client key payload t answer
@@ -143,7 +154,7 @@ module _ (file table : List ℕ) (client key : ℕ) (payload : List ℕ) (t : �
   }
 
   -- an accepted insert, by the decision
-  accepted_ways : (P : Loaded → Type 0) → Accepting file table client key payload t answer
+  pub accepted_ways : (P : Loaded → Type 0) → Accepting file table client key payload t answer
       → ((control : Control) → decision_on file key t ≡ control → (control ≡ Done → ⊥) → P (alone control accepted))
       → (decision_on file key t ≡ Done → (split file).answer ≡ 0 → P divided)
       → (decision_on file key t ≡ Done → ((split file).answer ≡ 0 → ⊥) → (o : Loaded) → Spared file table answer o
@@ -177,71 +188,6 @@ module _ (file table : List ℕ) (client key : ℕ) (payload : List ℕ) (t : �
       go NotDue e = single NotDue e not_due_done
       go NoRoom e = single NoRoom e no_room_done
       go Done e = halves e (eqb (split file).answer 0) refl
-
-  -- what holds of every way out holds of the call
-  pub load_ways : (P : Loaded → Type 0)
-      → ((o : Loaded) → Spared file table answer o → (Passing file table client key payload t answer → ⊥) → P o)
-      → (Passing file table client key payload t answer → held file key ≡ true
-      → P (alone NotDue (record {
-        answer = 8;
-        block = block 8 (way_of file (image_of table client) key) 0 no_payload;
-        table = adjusted_table file table client key;
-        file = file;
-      })))
-      → (Passing file table client key payload t answer → held file key ≡ false → full file key ≡ true
-      → P (alone NotDue (record {
-        answer = 9;
-        block = block 9 (way_of file (image_of table client) key) 0 no_payload;
-        table = adjusted_table file table client key;
-        file = file;
-      })))
-      → (Accepting file table client key payload t answer → (control : Control) → decision_on file key t ≡ control
-      → (control ≡ Done → ⊥) → P (alone control accepted))
-      → (Accepting file table client key payload t answer → decision_on file key t ≡ Done → (split file).answer ≡ 0
-      → P divided)
-      → (Accepting file table client key payload t answer → decision_on file key t ≡ Done
-      → ((split file).answer ≡ 0 → ⊥) → (o : Loaded) → Spared file table answer o → P o)
-      → P (insert_split file table client key payload t answer)
-  unfolding unranged
-  load_ways P refused there whole single both stopped =
-      go (eqb (length answer) 24 && eqb (length payload) 14 && not (threshold_fits t)) refl
-    where
-      go : (b : Bool) → (eqb (length answer) 24 && eqb (length payload) 14 && not (threshold_fits t)) ≡ b
-          → P (insert_split file table client key payload t answer)
-      go true e = subst P (load_is true e) (refused _ (record {
-        some = omega arith;
-        before = (λ z. omega (arith, z), λ z. omega (arith, z));
-        table_left = refl;
-        file_left = refl;
-        block_left = λ z. absurd (omega (arith, z));
-      }) (λ p. true≢false
-          (sym (and_right (eqb (length answer) 24 && eqb (length payload) 14) (not (threshold_fits t)) e)
-          ∙ ap not p.ranged)))
-      go false e = subst P (load_is false e) (insert_ways file table client key payload answer
-          (λ o. P (controlled file table client key t o))
-          (λ o r. subst P (controlled_refused file table client key t o (λ z. omega (arith, r.some, z)))
-          (refused (alone NotDue o) (record {
-            some = r.some;
-            before = r.before;
-            table_left = r.table_left;
-            file_left = r.file_left;
-            block_left = r.block_left;
-          }) (λ p. r.why p.through)))
-          (λ w h. subst P (controlled_refused file table client key t _ (λ z. omega (arith, z))) (there (passing w) h))
-          (λ w h f. subst P (controlled_refused file table client key t _ (λ z. omega (arith, z)))
-          (whole (passing w) h f))
-          (λ w h f. subst P (controlled_accepted file table client key t accepted refl)
-          (accepted_ways P (record { passing = passing w; free = h; room = f })
-          (single (record { passing = passing w; free = h; room = f }))
-          (both (record { passing = passing w; free = h; room = f }))
-          (stopped (record { passing = passing w; free = h; room = f })))))
-        where
-          passing : Through (eqb (length answer) 24 && eqb (length payload) 14) file table client key
-              → Passing file table client key payload t answer
-          passing w = record {
-            ranged = not-false (threshold_fits t) (sym (ap (λ (c : Bool). c && not (threshold_fits t)) w.fit) ∙ e);
-            through = w;
-          }
 
   -- ---- its reply, as documents 01 and 02 list it
 
@@ -416,7 +362,7 @@ module _ (file table : List ℕ) (client key : ℕ) (payload : List ℕ) (t : �
               ≡ together file table client key accepted (split file)
           done w free room =
               let open_to = passed file table client w.none in
-              let (answers, olds, news) = inserted_split file bytes open_to.header_sound_lem key payload whole
+              let (answers, olds, news) = inserted_split file bytes open_to.header_is_sound key payload whole
               (own_sound file table client key open_to w.sound) free room (room_on file key t e) in
               together_same file table client key accepted (split (inserted file key payload)) (split file) answers olds
               news

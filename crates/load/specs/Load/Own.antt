@@ -22,7 +22,8 @@ use Rattle.route.specs.Way.Reach.{AtOwn}
 use Rattle.answer.specs.Answer.{block, no_payload}
 use Rattle.ride.specs.Call.{Outcome, placed}
 use Rattle.ride.specs.Call.Placing.{inserted_known, inserted_room}
-use Rattle.ride.specs.Call.Replied.{count_is, inserted_is, placed_done, insert_held, insert_full, insert_done}
+use Rattle.ride.specs.Call.Replied.{count_is, inserted_is, placed_done, insert_held, insert_full}
+use Rattle.ride.proofs.Call.Replied.{insert_done}
 use Rattle.load.specs.declared.Control.{Control}
 use Rattle.load.specs.declared.Control.TheVariants.{NotDue, Done, NoRoom}
 use Rattle.load.specs.declared.Regions.{Regions}

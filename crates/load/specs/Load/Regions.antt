@@ -7,7 +7,7 @@ use borrow.Author.Tests.{not-true, not-false}
 use Rattle.address.specs.Limits.{first_buckets, no_bucket}
 use Rattle.address.specs.declared.Image.{Image}
 use Rattle.address.specs.Rules.{buckets, splitting, newborn}
-use Rattle.address.specs.Rules.Grow.{newborn_next}
+use Rattle.address.proofs.Rules.Grow.{newborn_next}
 use Rattle.address.specs.Rules.Hash.{span_pos}
 use Rattle.layout.specs.Bytes.{Bytes, all_zero}
 use Rattle.bucket.specs.Region.{Whole}

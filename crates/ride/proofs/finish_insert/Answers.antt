@@ -1,6 +1,7 @@
 -- `ride::finish_insert` adjusts the image, and places the ride unless its key is held or no slot is free.
 use borrow.Author.Tests.{leb-false}
-use Rattle.ride.specs.Call.Replied.{insert_held, insert_full, insert_done}
+use Rattle.ride.specs.Call.Replied.{insert_held, insert_full}
+use Rattle.ride.proofs.Call.Replied.{insert_done}
 use Rattle.std.proofs.Common.{rules}
 use Rattle.ride.proofs.finish_insert.Goals as goal
 

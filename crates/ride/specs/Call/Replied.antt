@@ -184,14 +184,14 @@ module _ {file table : List ℕ} {client key : ℕ} {header : Header} {image : I
     (own : AtOwn file table client key header image walk a place) {after : List ℕ}
     (et : after ≡ with_image table client (adjusted_by header.state image walk)) {count : ℕ}
     (en : count ≡ count_of (region_of file a)) where
-  adjusted_is : after ≡ adjusted_table file table client key
+  pub adjusted_is : after ≡ adjusted_table file table client key
   unfolding adjusted_table
   adjusted_is = et ∙ ap (with_image table client) own.after
 
-  held_at : {b : Bool} → ltb place count ≡ b → held file key ≡ b
+  pub held_at : {b : Bool} → ltb place count ≡ b → held file key ≡ b
   held_at h = sym (held_is file key a own.own place count own.slot en) ∙ h
 
-  full_at : {b : Bool} → leb header.slots count ≡ b → full file key ≡ b
+  pub full_at : {b : Bool} → leb header.slots count ≡ b → full file key ≡ b
   full_at h = sym (full_is file key a own.own header.slots count own.known.slots en) ∙ h
 
   -- a block of the route, with no payload
@@ -229,20 +229,6 @@ module _ {file table : List ℕ} {client key : ℕ} {header : Header} {image : I
         → record { answer = 9; block = left; table = after; file = file } ≡ placed file table client key payload
     insert_full h l el = (λ i. record { answer = 9; block = shown 9 el i; table = adjusted_is i; file = file })
         ∙ placed_full file table client key payload (held_at h) (full_at l)
-
-    pub insert_done : ltb place count ≡ false → leb header.slots count ≡ false → {grown : List ℕ}
-        → grown ≡ with_ride file a (record { key = key; payload = payload })
-        → left ≡ block 0 (noted walk) (count + 1) no_payload
-        → record { answer = 0; block = left; table = after; file = grown } ≡ placed file table client key payload
-    insert_done h l {grown} ex el =
-        (λ i.
-        record {
-          answer = 0;
-          block = (el ∙ ap₂ (λ (w : List ℕ) (n : ℕ). block 0 w n no_payload) own.way
-              (count_is file key a own.own en)) i;
-          table = adjusted_is i;
-          file = inserted_is file key a own.own payload grown ex i;
-        }) ∙ placed_done file table client key payload (held_at h) (full_at l)
 
 -- the block of a ride that was placed
 pub placed_block : (walk : Walk) (count : ℕ) {left : List ℕ} {n : ℕ} → n ≡ count + 1

@@ -5,7 +5,7 @@ use Rattle.std.proofs.Math.Path.{refl, sym, ap}
 use Rattle.std.proofs.Common.{◌∙◌, arith}
 use Rattle.address.specs.Limits.{first_buckets, most_level}
 use Rattle.address.specs.Rules.{Formed, NotAhead, buckets, address, image_after}
-use Rattle.address.specs.Rules.Adjust.{after_formed, after_behind, after_grows}
+use Rattle.address.proofs.Rules.Adjust.{after_formed, after_behind, after_grows}
 use Rattle.address.specs.Rules.Route.{delivered}
 use Rattle.layout.specs.Replies.{reply}
 use Rattle.bucket.specs.Region.{every}
@@ -23,17 +23,17 @@ use Rattle.route.specs.Way.Own.{own_is}
 pub record Passed (file table : List ℕ) (client : ℕ) : Type 0 where
   pub there : 8 * client + 8 ≤ length table
   pub image_sound : record_sound table client ≡ true
-  pub header_sound_lem : header_sound file ≡ true
+  pub header_is_sound : header_sound file ≡ true
   pub behind : buckets first_buckets (image_of table client) ≤ buckets_of file
 
 pub passed : (file table : List ℕ) (client : ℕ) → reply (early file table client) 0 ≡ 0 → Passed file table client
 passed file table client none =
     let (passes, recorded, headed, near) = early_passes file table client none in
-    record { there = record_fits table client passes; image_sound = recorded; header_sound_lem = headed; behind = near }
+    record { there = record_fits table client passes; image_sound = recorded; header_is_sound = headed; behind = near }
 
 module _ (file table : List ℕ) (client : ℕ) (open_to : Passed file table client) where
   pub formed : Formed first_buckets (state_of file)
-  formed = (header_ranges file open_to.header_sound_lem).formed
+  formed = (header_ranges file open_to.header_is_sound).formed
 
   pub believes : Formed first_buckets (image_of table client)
   believes = (record_image table client open_to.image_sound).1
@@ -81,5 +81,5 @@ module _ (file table : List ℕ) (client key : ℕ) (open_to : Passed file table
 
   pub written_low : (image_after first_buckets (state_of file) (image_of table client) key).level ≤ most_level
   written_low = (state_small (image_after first_buckets (state_of file) (image_of table client) key) (most_of file)
-      (header_ranges file open_to.header_sound_lem).figured.few_buckets written_formed
-      (omega (arith, written_behind, existing file, (header_ranges file open_to.header_sound_lem).few))).0
+      (header_ranges file open_to.header_is_sound).figured.few_buckets written_formed
+      (omega (arith, written_behind, existing file, (header_ranges file open_to.header_is_sound).few))).0

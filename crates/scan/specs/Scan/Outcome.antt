@@ -7,7 +7,8 @@ use Rattle.address.specs.Compare.{below, same}
 use Rattle.address.specs.Limits.{first_buckets, no_bucket}
 use Rattle.address.specs.Rules.{last_round, highest}
 use Rattle.address.specs.Rules.Address.{address_exists}
-use Rattle.address.specs.Rules.Scan.{times, rounds}
+use Rattle.address.specs.Rules.Scan.{times}
+use Rattle.address.proofs.Rules.Scan.{rounds}
 use Rattle.layout.specs.Bytes.{edit}
 use Rattle.layout.specs.Bytes.Edit.{front_written, rest_left}
 use Rattle.layout.specs.Replies.{reply}
@@ -115,20 +116,20 @@ module _ (file table : List ℕ) (client lift : ℕ) (visits matches : List ℕ)
 
   module _ (passes : Passed file table client) where
     visits_length : length way ≡ buckets_of file
-    visits_length = way_length file passes.header_sound_lem (image_of table client) (believes file table client passes)
+    visits_length = way_length file passes.header_is_sound (image_of table client) (believes file table client passes)
         (near file table client passes)
 
     visits_once : (a : ℕ) → a < buckets_of file → times a way ≡ 1
-    visits_once = way_once file passes.header_sound_lem (image_of table client) (believes file table client passes)
+    visits_once = way_once file passes.header_is_sound (image_of table client) (believes file table client passes)
         (near file table client passes)
 
     visits_only : (a : ℕ) → buckets_of file ≤ a → times a way ≡ 0
-    visits_only = way_only file passes.header_sound_lem (image_of table client) (believes file table client passes)
+    visits_only = way_only file passes.header_is_sound (image_of table client) (believes file table client passes)
         (near file table client passes)
 
     -- in a sound file it has no unsound bucket
     pub scan_file_sound : file_sound file ≡ true → every (bucket_sound_in file) way ≡ true
-    scan_file_sound sound = way_sound file passes.header_sound_lem (image_of table client)
+    scan_file_sound sound = way_sound file passes.header_is_sound (image_of table client)
         (believes file table client passes) (near file table client passes) (sound_bucket file sound)
 
     -- and its last round is at most the highest bucket level less i'

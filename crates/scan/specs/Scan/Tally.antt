@@ -7,7 +7,8 @@ use Rattle.std.specs.Int.Count.{ones}
 use Rattle.address.specs.Limits.{first_buckets, no_bucket, most_slots}
 use Rattle.address.specs.declared.Image.{Image}
 use Rattle.address.specs.Rules.{buckets, numbers}
-use Rattle.address.specs.Rules.Sums.{sum_of, sum_none, sum_cons, sum_more, sum_done, visits_sum}
+use Rattle.address.specs.Rules.Sums.{sum_of, sum_none, sum_cons, sum_more, sum_done}
+use Rattle.address.proofs.Rules.Sums.{visits_sum}
 use Rattle.bucket.specs.Region.{count_of, key_at}
 use Rattle.bucket.specs.Region.Keep.{keys_count, keys_at}
 use Rattle.file.specs.File.{state_of, region_of, buckets_of, bucket_sound_in}

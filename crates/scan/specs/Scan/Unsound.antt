@@ -9,7 +9,8 @@ use Rattle.address.specs.declared.Image.{Image}
 use Rattle.address.specs.Rules.{buckets, earlier}
 use Rattle.address.specs.Rules.Earlier.{first_believed}
 use Rattle.address.specs.Rules.First.{first_of, first_none, first_here, first_there, better, best_from, best_more}
-use Rattle.address.specs.Rules.First.{best_done, first_visited, first_lowest}
+use Rattle.address.specs.Rules.First.{best_done}
+use Rattle.address.proofs.Rules.First.{first_visited, first_lowest}
 use Rattle.bucket.specs.Region.{every}
 use Rattle.bucket.specs.Region.Every.{every_times}
 use Rattle.file.specs.File.{state_of, buckets_of, bucket_sound_in}

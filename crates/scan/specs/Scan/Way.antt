@@ -9,9 +9,11 @@ use Rattle.address.specs.Limits.{first_buckets, most_level, most_buckets}
 use Rattle.address.specs.Room.{ImageRoom}
 use Rattle.address.specs.declared.Image.{Image}
 use Rattle.address.specs.Rules.{Formed, NotAhead, buckets, visits}
-use Rattle.address.specs.Rules.Earlier.{AllOf, each_at, visits_each}
+use Rattle.address.specs.Rules.Earlier.{AllOf, each_at}
+use Rattle.address.proofs.Rules.Earlier.{visits_each}
 use Rattle.address.specs.Rules.Hash.{span_is, span_mono}
-use Rattle.address.specs.Rules.Scan.{times, times_here, times_there, visits_once, visits_only, visits_length}
+use Rattle.address.specs.Rules.Scan.{times, times_here, times_there}
+use Rattle.address.proofs.Rules.Scan.{visits_once, visits_only, visits_length}
 use Rattle.layout.specs.Bytes.{edit}
 use Rattle.bucket.specs.Region.{every}
 use Rattle.bucket.specs.Region.Every.{every_none, every_next}
@@ -118,7 +120,7 @@ module _ {file : List ℕ} {header : Header} {image : Image} (given : Starting f
       near = omega (arith, given.formed, span_mono first_buckets given.low, span_is first_buckets most_level);
     };
     formed = subst (Formed first_buckets) (sym given.known.state) given.known.ranges.formed;
-    image_formed_lem = given.formed;
+    image_formed = given.formed;
     behind = subst (λ (s : Image). NotAhead first_buckets s image) (sym given.known.state) given.behind;
     few = omega (arith, starting_buckets (buckets first_buckets header.state) refl, starting_few);
   }

@@ -1,0 +1,2 @@
+-- The law of insert that a wrong count breaks.
+pub mod Replied

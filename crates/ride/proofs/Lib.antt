@@ -1,0 +1,2 @@
+-- The law that rests on what an edit in must-fail/ turns.
+pub mod Call
