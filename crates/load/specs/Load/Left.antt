@@ -73,7 +73,7 @@ split_numbers file some = subst Among (sym (split_reply file))
     ten z = (omega arith, omega arith, λ e. omega (arith, e), λ e. omega (arith, e))
 
 -- of a split that was judged only its answer and its numbers count
-together_same : (file table : List ℕ) (client key : ℕ) (first : Outcome) (x y : SplitOutcome) → x.answer ≡ y.answer
+pub together_same : (file table : List ℕ) (client key : ℕ) (first : Outcome) (x y : SplitOutcome) → x.answer ≡ y.answer
     → x.old ≡ y.old → x.new ≡ y.new
     → together file table client key first x ≡ together file table client key first y
 unfolding together
@@ -348,33 +348,3 @@ module _ (file table : List ℕ) (client key : ℕ) (payload : List ℕ) (t : �
       load_alone NoRoom e other =
           ap (decided file table client key (insert file table client key payload answer)) (sym e) ∙ by_decision
       load_alone Done e other = absurd (other refl)
-
-      -- accepted, and the file that the insert left is split
-      pub load_follows : Bytes file → Whole (record { key = key; payload = payload }) → decision_on file key t ≡ Done
-          → together file table client key (insert file table client key payload answer)
-          (split (insert file table client key payload answer).file)
-          ≡ insert_split file table client key payload t answer
-      load_follows bytes whole e = same ∙ load_together e
-        where
-          done : Through (eqb (length answer) 24 && eqb (length payload) 14) file table client key
-              → held file key ≡ false → full file key ≡ false
-              → together file table client key accepted (split (inserted file key payload))
-              ≡ together file table client key accepted (split file)
-          done w free room =
-              let open_to = passed file table client w.none in
-              let (answers, olds, news) = inserted_split file bytes open_to.header_is_sound key payload whole
-              (own_sound file table client key open_to w.sound) free room (room_on file key t e) in
-              together_same file table client key accepted (split (inserted file key payload)) (split file) answers olds
-              news
-
-          same : together file table client key (insert file table client key payload answer)
-              (split (insert file table client key payload answer).file)
-              ≡ together file table client key (insert file table client key payload answer) (split file)
-          same = insert_ways file table client key payload answer
-              (λ o. o.answer ≡ 0 → together file table client key o (split o.file)
-              ≡ together file table client key o (split file))
-              (λ o r z. absurd (omega (arith, r.some, z)))
-              (λ w there z. absurd (omega (arith, z)))
-              (λ w free full z. absurd (omega (arith, z)))
-              (λ w free room z. done w free room)
-              none
