@@ -61,8 +61,8 @@ pub extern "C" fn lhstar_insert(
     payload: &[u8],
     answer: &mut [u8],
 ) -> u8
-    ensures { record { answer = result; block = answer.exit.now; table = table.new; file = file.new }
-        ≡ insert file.old table.old client key payload.now answer.entry.now }
+    ensures { record { answer = result; block = answer.new; table = table.new; file = file.new }
+        ≡ insert file.old table.old client key payload.now answer.old }
 {
     ride::insert(file, table, client, key, payload, answer)
 }
@@ -83,12 +83,12 @@ pub extern "C" fn lhstar_insert_split(
       split = result.split;
       old = result.old_bucket;
       new = result.new_bucket;
-      block = answer.exit.now;
+      block = answer.new;
       table = table.new;
       file = file.new;
     }
         ≡ numbered (insert_split file.old table.old client key payload.now threshold
-        answer.entry.now) }
+        answer.old) }
 {
     let loaded = load::insert_split(file, table, client, key, payload, threshold, answer);
     let control = loaded.split;
@@ -109,8 +109,8 @@ pub extern "C" fn lhstar_search(
     key: u64,
     answer: &mut [u8],
 ) -> u8
-    ensures { record { answer = result; block = answer.exit.now; table = table.new; file = file.now }
-        ≡ search file.now table.old client key answer.entry.now }
+    ensures { record { answer = result; block = answer.new; table = table.new; file = file.now }
+        ≡ search file.now table.old client key answer.old }
 {
     ride::search(file, table, client, key, answer)
 }

@@ -199,7 +199,7 @@ fn place(
         end.place
         × (count ≡ count_of (region_of file.old end.bucket))
         × (refusal_at end.place count opened.header.slots ≡ 0) }
-    ensures { (record { answer = 0; block = answer.exit.now; table = table.new; file = file.new }
+    ensures { (record { answer = 0; block = answer.new; table = table.new; file = file.new }
         ≡ placed file.old table.old client key payload.now)
         × Kept file.old file.new opened.header }
 {

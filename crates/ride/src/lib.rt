@@ -39,7 +39,7 @@ fn finish_search(
     requires { (length answer.old ≡ 24)
         × AtOwn file.now table.old client key opened.header opened.image end.walk end.bucket
         end.place }
-    ensures { record { answer = result; block = answer.exit.now; table = table.new; file = file.now }
+    ensures { record { answer = result; block = answer.new; table = table.new; file = file.now }
         ≡ searched file.now table.old client key }
 {
     let header = opened.header;
@@ -58,8 +58,8 @@ fn finish_search(
 // A search that nothing refuses before its route: 7, or what it finds at the key's own bucket.
 fn walk_search(file: &[u8], table: &mut [u8], client: u64, key: u64, answer: &mut [u8]) -> u8
     requires { (length answer.old ≡ 24) × (reply (early file.now table.old client) 0 ≡ 0) }
-    ensures { record { answer = result; block = answer.exit.now; table = table.new; file = file.now }
-        ≡ routed true file.now table.old client key answer.entry.now
+    ensures { record { answer = result; block = answer.new; table = table.new; file = file.now }
+        ≡ routed true file.now table.old client key answer.old
         (searched file.now table.old client key) }
 {
     let opened = route::open(file, table, client);
@@ -74,8 +74,8 @@ fn walk_search(file: &[u8], table: &mut [u8], client: u64, key: u64, answer: &mu
 
 // Searches a key through a client: 14, 2 to 6, 7, else 0 with its payload or 1.
 pub fn search(file: &[u8], table: &mut [u8], client: u64, key: u64, answer: &mut [u8]) -> u8
-    ensures { record { answer = result; block = answer.exit.now; table = table.new; file = file.now }
-        ≡ search file.now table.old client key answer.entry.now }
+    ensures { record { answer = result; block = answer.new; table = table.new; file = file.now }
+        ≡ search file.now table.old client key answer.old }
 {
     if answer.len() != 24 {
         return 14;
@@ -124,7 +124,7 @@ fn finish_insert(
     requires { (length answer.old ≡ 24) × (length payload.now ≡ 14)
         × AtOwn file.old table.old client key opened.header opened.image end.walk end.bucket
         end.place }
-    ensures { record { answer = result; block = answer.exit.now; table = table.new; file = file.new }
+    ensures { record { answer = result; block = answer.new; table = table.new; file = file.new }
         ≡ placed file.old table.old client key payload.now }
 {
     let header = opened.header;
@@ -156,8 +156,8 @@ fn walk_insert(
 ) -> u8
     requires { (length answer.old ≡ 24) × (length payload.now ≡ 14)
         × (reply (early file.old table.old client) 0 ≡ 0) }
-    ensures { record { answer = result; block = answer.exit.now; table = table.new; file = file.new }
-        ≡ routed true file.old table.old client key answer.entry.now
+    ensures { record { answer = result; block = answer.new; table = table.new; file = file.new }
+        ≡ routed true file.old table.old client key answer.old
         (placed file.old table.old client key payload.now) }
 {
     let opened = route::open(file, table, client);
@@ -179,8 +179,8 @@ pub fn insert(
     payload: &[u8],
     answer: &mut [u8],
 ) -> u8
-    ensures { record { answer = result; block = answer.exit.now; table = table.new; file = file.new }
-        ≡ insert file.old table.old client key payload.now answer.entry.now }
+    ensures { record { answer = result; block = answer.new; table = table.new; file = file.new }
+        ≡ insert file.old table.old client key payload.now answer.old }
 {
     let fits = (answer.len() == 24) & (payload.len() == 14);
     if !fits {

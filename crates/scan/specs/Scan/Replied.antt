@@ -142,14 +142,14 @@ module _ (file table : List ℕ) (client lift : ℕ) (visits matches : List ℕ)
       found : List ℕ
       found = matches_on file lift way
 
-      go : (none short fine few : Bool)
+      go : (none short sound few : Bool)
           → (cond (not none) (refused r no_bucket visits matches) (cond short (refused 11 no_bucket visits matches)
-          (cond (not fine) (refused 7 (first_unsound file way) visits matches)
+          (cond (not sound) (refused 7 (first_unsound file way) visits matches)
           (cond few (refused 12 no_bucket visits matches)
           (leaving (acceptance (length way) (length found)) (edit 0 way visits) (edit 0 found matches)))))).answer
-          ≡ cond none (reply (refuse 11 short ∷ refuse 7 (not fine) ∷ refuse 12 few ∷ []) 0) r
-      go false short fine few = refl
-      go true true fine few = sym (reply_here 11 true _ 0 refl)
+          ≡ cond none (reply (refuse 11 short ∷ refuse 7 (not sound) ∷ refuse 12 few ∷ []) 0) r
+      go false short sound few = refl
+      go true true sound few = sym (reply_here 11 true _ 0 refl)
       go true false false few = sym (reply_past 11 false _ 0 refl ∙ reply_here 7 true _ 0 refl)
       go true false true true = sym
           (reply_past 11 false _ 0 refl ∙ reply_past 7 false _ 0 refl ∙ reply_here 12 true _ 0 refl)
