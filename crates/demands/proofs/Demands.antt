@@ -1,20 +1,14 @@
 -- The three demands hold of every run of calls, and of every run from nothing.
-use Rattle.std.specs.Prelude.{ℕ, ◌*◌, ◌-◌, ◌≤◌, ◌<◌, ◌≡◌, true, not, List, [], ◌∷◌, ◌⊎◌, length}
+use Rattle.std.specs.Prelude.{ℕ, ◌≡◌, true, List}
 use Rattle.std.proofs.Common.{arith}
-use Rattle.address.specs.Limits.{first_buckets}
 use Rattle.layout.specs.Bytes.{Bytes}
-use Rattle.layout.specs.Replies.{refuse, reply}
-use Rattle.client.specs.Table.{exists}
-use Rattle.file.specs.File.{figures_fit, buckets_of, file_sound, create}
+use Rattle.file.specs.File.{file_sound}
 use Rattle.file.specs.File.Create.{create_reply, create_left}
-use Rattle.ride.specs.Call.{adjusted_table, search, insert}
-use Rattle.load.specs.Load.{insert_split}
-use Rattle.scan.specs.Scan.{scan}
 use Rattle.scan.specs.Scan.Outcome.{scan_refused}
-use Rattle.demands.specs.Run.{Memory, Call, Insert, InsertSplit, Search, AllTyped, Each}
-use Rattle.demands.specs.Run.{after, run, replied, conditions, Finds, Accepted, Kept, Ready}
-use Rattle.demands.specs.Run.{sent, Reached, VisitsOnce, believed, wrong_first, forwards_of}
-use Rattle.demands.specs.Run.{summed, NotJoined, started, FromNothing}
+use Rattle.demands.specs.Run.{Memory, Call, AllTyped}
+use Rattle.demands.specs.Run.{Ready}
+use Rattle.demands.specs.Run.{sent, Reached, VisitsOnce}
+use Rattle.demands.specs.Run.{started, FromNothing}
 use Rattle.demands.specs.Run.Clients.{ready_run, each_run, sent_reaches, scan_once}
 use Rattle.demands.proofs.Run.Clients.{wrong_sends}
 use Rattle.demands.specs.Run.Clients.{forwards_summed}

@@ -1,20 +1,16 @@
 -- The three demands, over every run of calls.
 use Rattle.std.specs.Prelude.{ℕ, ◌*◌, ◌-◌, ◌≤◌, ◌<◌, ◌≡◌, true, not, List, [], ◌∷◌, ◌⊎◌, length}
-use Rattle.std.proofs.Common.{arith}
 use Rattle.address.specs.Limits.{first_buckets}
-use Rattle.layout.specs.Bytes.{Bytes}
 use Rattle.layout.specs.Replies.{refuse, reply}
 use Rattle.client.specs.Table.{exists}
 use Rattle.file.specs.File.{figures_fit, buckets_of, file_sound, create}
-use Rattle.file.specs.File.Create.{create_reply, create_left}
 use Rattle.ride.specs.Call.{adjusted_table, search, insert}
 use Rattle.load.specs.Load.{insert_split}
 use Rattle.scan.specs.Scan.{scan}
-use Rattle.scan.specs.Scan.Outcome.{scan_refused}
-use Rattle.demands.specs.Run.{Memory, Call, Insert, InsertSplit, Search, AllTyped, Each}
+use Rattle.demands.specs.Run.{Memory, Call, Insert, InsertSplit, Search, Each}
 use Rattle.demands.specs.Run.{after, run, replied, conditions, Finds, Accepted, Kept, Ready}
 use Rattle.demands.specs.Run.{sent, Reached, VisitsOnce, believed, wrong_first, forwards_of}
-use Rattle.demands.specs.Run.{summed, NotJoined, started, FromNothing}
+use Rattle.demands.specs.Run.{summed, NotJoined}
 
 -- Demand 1. Every entry point takes anything at all, judges it itself and gives exactly the
 -- numbered reply that document 01 fixes, first match wins. A refusal changes nothing but what 01

@@ -1,11 +1,11 @@
 -- The image after a key was sent by a client that is not ahead: well formed, never ahead, and, where the first bucket
 -- did not keep the key, of more buckets than before. A first bucket a of level j that does not keep the key is below
 -- 2^(j-1), and the client then believes in exactly 2^(j-1) + a + 1 buckets.
-use Rattle.std.specs.Prelude.{ℕ, suc, ◌+◌, ◌-◌, ◌≤◌, ◌<◌, ◌≡◌, refl}
+use Rattle.std.specs.Prelude.{ℕ, suc, ◌+◌, ◌-◌, ◌≤◌, ◌<◌, ◌≡◌}
 use Rattle.std.proofs.Common.{ap, ◌∙◌, ⊎_elim, arith}
 use Rattle.address.specs.Compare.{below, same}
 use Rattle.address.specs.declared.Image.{Image}
-use Rattle.address.specs.Rules.{Formed, NotAhead, span, buckets, hash, address, level, keeps, wrapped, adjusted}
+use Rattle.address.specs.Rules.{Formed, NotAhead, span, buckets, hash, address, level, wrapped}
 use Rattle.address.specs.Rules.{image_after}
 use Rattle.address.specs.Rules.Hash.{span_suc, span_mono}
 use Rattle.address.specs.Rules.Cases.{buckets_is, level_split, level_low, keeps_yes, keeps_no, adjusted_kept}

@@ -1,5 +1,4 @@
 -- `address::address` gives the lower hash, or the upper one where the lower is below the pointer: the rule's two cases.
-use Rattle.std.proofs.Common.{rules}
 use Rattle.address.specs.Rules.Cases.{address_up, address_same}
 use Rattle.address.proofs.address.Goals as goal
 

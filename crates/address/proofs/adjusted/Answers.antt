@@ -1,5 +1,4 @@
 -- `address::adjusted` goes by the rule's cases: kept, behind the first bucket's level, or level with it.
-use Rattle.std.proofs.Common.{rules}
 use Prim.Native.Nat.{◌-◌}
 use mathlib.Core.Path.{◌∙◌, ap, sym}
 use native.Mathlib.Numerals.{add-one}

@@ -1,5 +1,4 @@
 -- `address::buckets` is the span and the pointer.
-use Rattle.std.proofs.Common.{rules}
 use native.Mathlib.Omega.{arith}
 use Rattle.address.specs.Rules.Cases.{buckets_is}
 use Rattle.address.proofs.buckets.Goals as goal

@@ -1,5 +1,4 @@
 -- `address::child` is one span further.
-use Rattle.std.proofs.Common.{rules}
 use native.Mathlib.Omega.{arith}
 use Rattle.address.specs.Rules.Cases.{child_is}
 use Rattle.address.proofs.child.Goals as goal

@@ -1,5 +1,4 @@
 -- `address::fate_at` meets the three fates in turn: unsound, kept, sent on.
-use Rattle.std.proofs.Common.{rules}
 use mathlib.Core.Bool.{Bool}
 use mathlib.Core.Path.{◌∙◌, ap, sym}
 use Rattle.address.specs.Rules.{fate}

@@ -1,5 +1,4 @@
 -- `address::grown` wraps the next pointer.
-use Rattle.std.proofs.Common.{rules}
 use mathlib.Core.Path.{◌∙◌, ap, sym}
 use native.Mathlib.Numerals.{add-one}
 use Rattle.address.specs.Rules.{wrapped}

@@ -1,5 +1,4 @@
 -- `address::hash` is the remainder by the span, which one first bucket makes a power of two.
-use Rattle.std.proofs.Common.{rules}
 use native.Mathlib.Omega.{arith}
 use Rattle.address.specs.Room.{span_shift_one, hash_by}
 use Rattle.address.specs.Rules.Hash.{span_pos}

@@ -1,5 +1,4 @@
 -- `address::level_of` goes by the rule's cases: below the pointer, born of a split, or neither.
-use Rattle.std.proofs.Common.{rules}
 use Rattle.address.specs.Rules.Cases.{level_passed, level_new, level_same}
 use Rattle.address.proofs.level_of.Goals as goal
 

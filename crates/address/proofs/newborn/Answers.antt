@@ -1,5 +1,4 @@
 -- `address::newborn` is the child of the bucket at the pointer.
-use Rattle.std.proofs.Common.{rules}
 use native.Mathlib.Omega.{arith}
 use Rattle.address.specs.Rules.Cases.{child_is, newborn_is}
 use Rattle.address.proofs.newborn.Goals as goal

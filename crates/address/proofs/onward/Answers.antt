@@ -1,6 +1,5 @@
 -- `address::onward` goes by the rule's cases: the nearer hash lies between the bucket and the farther one, or it does
 -- not.
-use Rattle.std.proofs.Common.{rules}
 use Rattle.address.specs.Rules.Cases.{sent_near, sent_level, sent_past}
 use Rattle.address.proofs.onward.Goals as goal
 

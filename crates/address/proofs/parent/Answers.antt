@@ -1,5 +1,4 @@
 -- `address::parent` takes off the greatest power of two, which the leading zeros tell.
-use Rattle.std.proofs.Common.{rules}
 use mathlib.Core.Path.{sym}
 use native.Mathlib.Omega.{arith}
 use Rattle.address.specs.Rules.Parent.{parent_none, by_zeros}

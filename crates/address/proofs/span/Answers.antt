@@ -1,5 +1,4 @@
 -- `address::span` shifts; the span is at most 2^24, so no bit is lost.
-use Rattle.std.proofs.Common.{rules}
 use mathlib.Core.Path.{refl}
 use native.Mathlib.Omega.{arith}
 use Rattle.address.specs.Room.{span_room, span_shift}

@@ -1,5 +1,4 @@
 -- `address::wrapped` goes by the rule's two cases: the pointer is below the span, or has reached it.
-use Rattle.std.proofs.Common.{rules}
 use Prim.Native.Nat.{ℕ}
 use mathlib.Core.Path.{◌∙◌, ap, sym}
 use native.Mathlib.Numerals.{add-one}

@@ -4,24 +4,21 @@
 use Prim.Native.Nat.{ℕ, zero, suc, ◌+◌, ◌-◌, ◌≤◌, ◌<◌}
 use Rattle.std.specs.Prelude.{◌≡◌, Bool, ◌||◌, List, [], ◌∷◌, ◌++◌, ◌⊎◌, length, get_or}
 use Rattle.std.proofs.Math.Path.{refl}
-use Rattle.std.proofs.Common.{sym, ap, ap₂, subst, ◌∙◌, append-nil, inl, inr, add-one, arith, take_all}
+use Rattle.std.proofs.Common.{sym, ap, ap₂, subst, ◌∙◌, append-nil, inl, inr, add-one, arith}
 use Rattle.std.proofs.Math.Bool.{true, false}
 use Rattle.std.proofs.Math.Logic.{⊎_elim}
 use borrow.Author.Tests.{ltb-true, lt-ltb, le-ltb, eq-eqb, ne_eqb}
 use Rattle.std.proofs.Math.Dec.{ltb, eqb}
-use Rattle.std.proofs.Math.ListN.{get_or-append}
 use Rattle.std.proofs.Math.Seq.{append_snoc}
 use Rattle.address.specs.Compare.{below, same}
 use Rattle.address.specs.declared.Image.{Image}
-use Rattle.address.specs.Rules.{Formed, NotAhead, span, buckets, level, child, numbers, visits}
+use Rattle.address.specs.Rules.{span, buckets, child, numbers}
 use Rattle.address.specs.Rules.{parent, apart, earlier_within, earlier}
 use Rattle.address.specs.Rules.Hash.{span_is, span_suc, span_mono, span_pos, span_above}
 use Rattle.address.specs.Rules.Cases.{buckets_is, child_is}
-use Rattle.address.specs.Rules.Address.{level_spans}
 use Rattle.address.specs.Rules.Parent.{parent_of}
 use Rattle.address.specs.Rules.Scan.{times, times_none, times_here, times_there}
-use Rattle.address.specs.Rules.Order.{born, born_cons, born_none, Told, Scanning, scanning_few}
-use Rattle.address.specs.Rules.Order.{scanning_waits, scanning_next, scanning_done, child_later}
+use Rattle.address.specs.Rules.Order.{born, born_cons, born_none}
 
 -- ---- which of two buckets is first, by its cases
 

@@ -4,14 +4,12 @@
 use Prim.Native.Nat.{ℕ, zero, suc, ◌+◌, ◌-◌, ◌≤◌, ◌<◌}
 use Rattle.std.specs.Prelude.{◌≡◌, Bool, true, false, cond, ◌&&◌, List, [], ◌∷◌, ◌⊎◌}
 use Rattle.std.proofs.Math.Path.{refl, ap}
-use Rattle.std.proofs.Common.{sym, ◌∙◌, inl, inr, add-one, ltb-true}
+use Rattle.std.proofs.Common.{sym, ◌∙◌, inl, inr, add-one}
 use Rattle.std.proofs.Math.Logic.{⊎_elim}
 use native.Mathlib.Omega.{arith}
-use Rattle.address.specs.Compare.{below, same}
-use Rattle.address.specs.declared.Image.{Image}
-use Rattle.address.specs.Rules.{Formed, NotAhead, buckets, visits, earlier}
+use Rattle.address.specs.Compare.{same}
+use Rattle.address.specs.Rules.{earlier}
 use Rattle.address.specs.Rules.Scan.{times, times_none, times_here, times_there}
-use Rattle.address.specs.Rules.Earlier.{first_believed, earlier_number, earlier_self, earlier_refutes, AllOf}
 use Rattle.address.specs.Rules.Earlier.{each_of, Ordered}
 
 -- The first number of a list that passes a test, and another number if none does.

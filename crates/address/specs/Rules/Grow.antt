@@ -1,16 +1,14 @@
 -- What a split does to (i, n): one bucket more; only bucket n and the new bucket have another level; only keys of
 -- bucket n move, and only to the new bucket. By the two cases of growth: the pointer goes up by one, or has come to the
 -- span and the level goes up.
-use Rattle.std.specs.Prelude.{ℕ, suc, ◌+◌, ◌≤◌, ◌<◌, ◌≡◌, ◌⊎◌}
-use Rattle.std.proofs.Common.{sym, subst, ◌∙◌, inl, inr, ⊎_elim, arith}
+use Rattle.std.specs.Prelude.{ℕ, suc, ◌+◌, ◌≤◌, ◌<◌, ◌≡◌}
+use Rattle.std.proofs.Common.{sym, subst, ◌∙◌, ⊎_elim, arith}
 use Rattle.address.specs.Compare.{below}
 use Rattle.address.specs.declared.Image.{Image}
-use Rattle.address.specs.Rules.{«at», Formed, span, buckets, hash, address, level, wrapped, splitting, newborn}
+use Rattle.address.specs.Rules.{«at», Formed, span, buckets, wrapped}
 use Rattle.address.specs.Rules.{grown}
-use Rattle.address.specs.Rules.Hash.{span_suc, span_pos, hash_lt, hash_suc}
-use Rattle.address.specs.Rules.Address.{address_own}
-use Rattle.address.specs.Rules.Cases.{buckets_is, newborn_is, grown_is, wrapped_below, wrapped_full, address_low}
-use Rattle.address.specs.Rules.Cases.{address_high, level_split, level_born, level_rest}
+use Rattle.address.specs.Rules.Hash.{span_suc, span_pos}
+use Rattle.address.specs.Rules.Cases.{buckets_is, grown_is, wrapped_below, wrapped_full}
 
 -- wrapping keeps the number of buckets, and leaves a pointer below the span
 pub wrapped_formed : (N : ℕ) → 0 < N → (k p : ℕ) → Formed N (wrapped N k p)

@@ -14,12 +14,11 @@ use Rattle.std.proofs.lemmas.List.{length-map, drop-append-le}
 use Rattle.std.proofs.Math.Seq.{take-suc, take-append-le, append_snoc}
 use Rattle.address.specs.Compare.{below}
 use Rattle.address.specs.declared.Image.{Image}
-use Rattle.address.specs.Rules.{Formed, NotAhead, span, buckets, level, child, Message, message, numbers, opening}
-use Rattle.address.specs.Rules.{sends, answers, handled, messages, visits}
+use Rattle.address.specs.Rules.{Formed, NotAhead, span, buckets, level, child, Message, message, numbers}
+use Rattle.address.specs.Rules.{sends, answers, handled, visits}
 use Rattle.address.specs.Rules.Hash.{span_is, span_suc, span_mono, span_pos}
 use Rattle.address.specs.Rules.Cases.{buckets_is, child_is, level_split, level_born, level_rest}
 use Rattle.address.specs.Rules.Scan.{AllGood, total, total_nil, child_good, next_good, next_total, waiting_total}
-use Rattle.address.specs.Rules.Scan.{visits_is, messages_is, opening_is}
 
 -- numbers in a row by the first of them
 pub numbers_cons : (a e : ℕ) → a < e → numbers a (e - a) ≡ a ∷ numbers (a + 1) (e - (a + 1))

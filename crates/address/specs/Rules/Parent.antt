@@ -12,7 +12,7 @@ use Rattle.std.proofs.lemmas.Nat.{leading_top}
 use Rattle.address.specs.Compare.{below}
 use Rattle.address.specs.Limits.{no_bucket}
 use Rattle.address.specs.Rules.{span, top_span, parent}
-use Rattle.address.specs.Rules.Hash.{span_is, span_suc, span_mono, span_above}
+use Rattle.address.specs.Rules.Hash.{span_is, span_mono, span_above}
 
 pub parent_none : (N b : ℕ) → b < N → parent N b ≡ no_bucket
 unfolding parent

@@ -9,7 +9,6 @@ use Rattle.std.proofs.Common.{◌∙◌, eq-eqb, ne_eqb}
 use mathlib.Core.List.{List, [], ◌∷◌, ◌++◌, map}
 use Rattle.std.proofs.Math.Logic.{⊎_elim}
 use native.Mathlib.Omega.{arith}
-use Rattle.std.proofs.Math.ListN.{length-map}
 use Rattle.address.specs.Compare.{below, same}
 use Rattle.address.specs.declared.Image.{Image}
 use Rattle.address.specs.Rules.{Formed, NotAhead, span, buckets, hash, address, level, child, Message, message}
@@ -17,7 +16,7 @@ use Rattle.address.specs.Rules.{numbers, opening, sends, answers, handled, messa
 use Rattle.address.specs.Rules.{highest}
 use Rattle.address.specs.Rules.Hash.{span_suc, span_mono, hash_lt, hash_suc}
 use Rattle.address.specs.Rules.Cases.{buckets_is, level_born, level_rest, level_low, level_high}
-use Rattle.address.specs.Rules.Address.{address_exists, address_own, address_number, level_spans}
+use Rattle.address.specs.Rules.Address.{address_own, address_number, level_spans}
 use Rattle.address.specs.Rules.Route.{level_behind}
 
 -- 1 for true, 0 for false.

@@ -7,8 +7,7 @@ use Rattle.std.proofs.Common.{◌∙◌, arith}
 use mathlib.Core.List.{List, [], ◌∷◌}
 use Rattle.std.proofs.Math.Logic.{⊎_elim}
 use Rattle.address.specs.Compare.{same}
-use Rattle.address.specs.declared.Image.{Image}
-use Rattle.address.specs.Rules.{Formed, NotAhead, buckets, numbers, visits}
+use Rattle.address.specs.Rules.{numbers}
 use Rattle.address.specs.Rules.Scan.{times, times_none, times_here, times_there}
 use Rattle.address.specs.Rules.Order.{numbers_cons, numbers_none}
 use Rattle.address.specs.Rules.Earlier.{AllOf}

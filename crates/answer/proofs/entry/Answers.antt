@@ -1,7 +1,6 @@
 -- `answer::entry` shows a bucket below the count, and none past it, as a number of two bytes.
 use Prim.Native.Nat.{◌%◌}
 use mathlib.Core.Path.{sym, ap}
-use Rattle.std.proofs.Common.{rules}
 use borrow.Author.Tests.{lt-ltb, le-ltb}
 use mathlib.Core.Bool.{Bool, cond}
 use Rattle.address.specs.Limits.{no_bucket}

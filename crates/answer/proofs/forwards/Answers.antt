@@ -1,6 +1,5 @@
 -- `answer::forwards` is the route's length less one, and 0 for a block of another length.
 use Rattle.answer.specs.Answer.Block.{forwards_other, forwards_none, forwards_met}
-use Rattle.std.proofs.Common.{rules}
 use Rattle.answer.proofs.forwards.Goals as goal
 
 pub returns-then-answer-ne24 : goal.returns-then-answer-ne24

@@ -1,8 +1,6 @@
 -- `bucket::find`: the first slot from k on is the first of all, since none before k has the key.
-use Rattle.std.proofs.Common.{rules}
-use Prim.Native.Nat.{◌-◌}
 use native.Mathlib.Omega.{arith}
-use Rattle.bucket.specs.Region.Told.{Finding, find_start, find_here, find_later, find_none}
+use Rattle.bucket.specs.Region.Told.{find_start, find_here, find_later, find_none}
 use Rattle.bucket.proofs.find.Goals as goal
 
 pub loop-k-init : goal.loop-k-init

@@ -1,8 +1,6 @@
 -- `bucket::find`: the first slot from k on is the first of all, since none before k has the key.
-use Rattle.std.proofs.Common.{rules}
 use Prim.Native.Nat.{◌-◌}
-use native.Mathlib.Omega.{arith}
-use Rattle.bucket.specs.Region.Told.{Finding, find_start, find_here, find_later, find_none}
+use Rattle.bucket.specs.Region.Told.{Finding}
 use Rattle.bucket.proofs.find.Given as goal
 
 abbrev pub invariant-loop-k : goal.invariant-loop-k

@@ -1,6 +1,5 @@
 -- `bucket::head_sound` tests the head as four numbers of two bytes.
 use Rattle.bucket.specs.Region.Judge.{head_judged}
-use Rattle.std.proofs.Common.{rules}
 use Rattle.bucket.proofs.head_sound.Goals as goal
 
 pub returns : goal.returns

@@ -1,7 +1,6 @@
 -- `bucket::key_at`: eight bytes behind a slot's mark.
 use mathlib.Core.Path.{sym, ◌∙◌}
 use Rattle.bucket.specs.Region.Judge.{key_is}
-use Rattle.std.proofs.Common.{rules}
 use Rattle.bucket.proofs.key_at.Goals as goal
 
 pub returns : goal.returns

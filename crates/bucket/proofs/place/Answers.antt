@@ -1,6 +1,5 @@
 -- `bucket::place` writes mark, key and payload one behind the other, which is the slot's bytes, and then the count.
 use mathlib.Core.Path.{refl}
-use Rattle.std.proofs.Common.{rules}
 use Rattle.bucket.specs.Region.Told.{ride_placed}
 use Rattle.bucket.proofs.place.Goals as goal
 

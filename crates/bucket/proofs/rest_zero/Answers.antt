@@ -1,5 +1,4 @@
 -- `bucket::rest_zero`: either way all bytes behind the used slots are tested.
-use Rattle.std.proofs.Common.{rules}
 use Rattle.bucket.specs.Region.Told.{rest_cut}
 use Rattle.bucket.proofs.rest_zero.Goals as goal
 

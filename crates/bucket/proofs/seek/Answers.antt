@@ -1,7 +1,6 @@
 -- `bucket::seek`: the slots from `next` on do not hold the key; the chain leads down to the latest before that could.
-use Rattle.std.proofs.Common.{rules}
-use Rattle.bucket.specs.Region.Single.{Sought, sought_start, sought_done}
-use Rattle.bucket.specs.Region.Told.{seek_met, wide_byte, seek_less, seek_next}
+use Rattle.bucket.specs.Region.Single.{sought_start, sought_done}
+use Rattle.bucket.specs.Region.Told.{seek_met, seek_less, seek_next}
 use Rattle.bucket.proofs.seek.Goals as goal
 
 pub loop-next-init : goal.loop-next-init

@@ -1,7 +1,5 @@
 -- `bucket::seek`: the slots from `next` on do not hold the key; the chain leads down to the latest before that could.
-use Rattle.std.proofs.Common.{rules}
-use Rattle.bucket.specs.Region.Single.{Sought, sought_start, sought_done}
-use Rattle.bucket.specs.Region.Told.{seek_met, wide_byte, seek_less, seek_next}
+use Rattle.bucket.specs.Region.Single.{Sought}
 use Rattle.bucket.proofs.seek.Given as goal
 
 abbrev pub invariant-loop-next : goal.invariant-loop-next

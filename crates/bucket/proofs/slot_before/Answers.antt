@@ -1,6 +1,5 @@
 -- `bucket::slot_before`: the test decides which of the two it is.
 use borrow.Author.Tests.{eq-eqb, ne_eqb}
-use Rattle.std.proofs.Common.{rules}
 use Rattle.bucket.proofs.slot_before.Goals as goal
 
 pub returns-then-found-eq0 : goal.returns-then-found-eq0

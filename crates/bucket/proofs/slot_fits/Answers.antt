@@ -1,6 +1,5 @@
 -- `bucket::slot_fits`: the mark and the key's bucket, by what was read.
 use Rattle.bucket.specs.Region.Judge.{fits_read}
-use Rattle.std.proofs.Common.{rules}
 use Rattle.bucket.proofs.slot_fits.Goals as goal
 
 pub returns : goal.returns

@@ -1,16 +1,12 @@
 -- `bucket::slots_chained`: the slots so far fit and are chained; each turn seeks one key along its chain and adds its
 -- slot. In the end the key asked for is sought in the same way.
-use Rattle.std.proofs.Common.{rules}
 use Prim.Native.Nat.{◌-◌}
 use mathlib.Core.Path.{◌≡◌}
 use mathlib.Core.Bool.{true}
 use Rattle.address.specs.Rules.{keeps}
 use Rattle.layout.specs.Bytes.{all_below}
-use Rattle.layout.specs.Bytes.Tests.{all_none}
 use Rattle.bucket.specs.Region.Judge.{fitting}
-use Rattle.bucket.specs.Region.Single.{Chaining, chain_none}
-use Rattle.bucket.specs.Region.Told.{chain_long, slot_unfit, wide_byte, chain_from, chained_double, slot_next}
-use Rattle.bucket.specs.Region.Told.{chain_next, chain_all, chain_last, chained_done}
+use Rattle.bucket.specs.Region.Single.{Chaining}
 use Rattle.bucket.proofs.slots_chained.Given as goal
 
 abbrev pub invariant-loop-k : goal.invariant-loop-k

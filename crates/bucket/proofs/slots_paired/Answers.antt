@@ -1,14 +1,8 @@
 -- `bucket::slots_paired`: the slots so far fit and their keys are distinct; each turn adds one slot whose key is not
 -- found before it. In the end the key asked for is found among them all.
-use Rattle.std.proofs.Common.{rules}
-use Prim.Native.Nat.{◌-◌, ◌≤◌}
-use mathlib.Core.Path.{◌≡◌}
-use mathlib.Core.Bool.{true}
 use native.Mathlib.Omega.{arith}
 use Rattle.address.specs.Rules.{keeps}
-use Rattle.layout.specs.Bytes.{all_below}
 use Rattle.layout.specs.Bytes.Tests.{all_none}
-use Rattle.bucket.specs.Region.{rides_from, keys_of, distinct}
 use Rattle.bucket.specs.Region.Judge.{fitting}
 use Rattle.bucket.specs.Region.Single.{single_none}
 use Rattle.bucket.specs.Region.Told.{slot_unfit, paired_double, slot_next, paired_next, paired_done}

@@ -1,7 +1,5 @@
 -- `bucket::slots_zero`: what was seen so far is zero if every byte of the slots so far is.
-use Rattle.std.proofs.Common.{rules}
-use Prim.Native.Nat.{◌-◌}
-use Rattle.bucket.specs.Region.Told.{Seen, seen_none, seen_more, seen_done}
+use Rattle.bucket.specs.Region.Told.{seen_none, seen_more, seen_done}
 use Rattle.bucket.proofs.slots_zero.Goals as goal
 
 pub loop-k-init : goal.loop-k-init

@@ -1,7 +1,6 @@
 -- `bucket::slots_zero`: what was seen so far is zero if every byte of the slots so far is.
-use Rattle.std.proofs.Common.{rules}
 use Prim.Native.Nat.{◌-◌}
-use Rattle.bucket.specs.Region.Told.{Seen, seen_none, seen_more, seen_done}
+use Rattle.bucket.specs.Region.Told.{Seen}
 use Rattle.bucket.proofs.slots_zero.Given as goal
 
 abbrev pub invariant-loop-k : goal.invariant-loop-k

@@ -1,7 +1,6 @@
 -- `client::caller_refusal` judges in the replies' order; each way out is a law of its own.
 use Rattle.client.specs.Table.Laws.{table_fits}
 use Rattle.client.specs.Table.Caller.{caller_table, caller_record, caller_fine}
-use Rattle.std.proofs.Common.{rules}
 use Rattle.client.proofs.caller_refusal.Goals as goal
 
 pub returns-then-reply-ne0 : goal.returns-then-reply-ne0

@@ -3,7 +3,6 @@ use mathlib.Core.Path.{sym, ap, ◌∙◌}
 use lib.Dec.{ltb}
 use native.Mathlib.Omega.{arith}
 use Rattle.client.specs.Table.Laws.{image_high, image_low}
-use Rattle.std.proofs.Common.{rules}
 use Rattle.client.proofs.image_formed.Goals as goal
 
 pub returns-then-image-gt-MOST_LEVEL : goal.returns-then-image-gt-MOST_LEVEL

@@ -1,6 +1,5 @@
 -- `client::image_of`: level and pointer are read where they stand.
 use Rattle.client.specs.Table.Laws.{image_read}
-use Rattle.std.proofs.Common.{rules}
 use Rattle.client.proofs.image_of.Goals as goal
 
 pub returns : goal.returns

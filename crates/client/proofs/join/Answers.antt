@@ -1,7 +1,6 @@
 -- `client::join` passes on a refusal, or writes (0, 0) over the record.
 use native.Mathlib.Omega.{arith}
 use Rattle.client.specs.Table.Laws.{table_fits, join_refused, join_done}
-use Rattle.std.proofs.Common.{rules}
 use Rattle.client.proofs.join.Goals as goal
 
 pub returns-then-refused-ne0 : goal.returns-then-refused-ne0

@@ -1,6 +1,5 @@
 -- `client::put_image` writes the mark, then the figures behind it: the image's bytes.
 use Rattle.client.specs.Table.Laws.{image_written}
-use Rattle.std.proofs.Common.{rules}
 use Rattle.client.proofs.put_image.Goals as goal
 
 pub returns : goal.returns

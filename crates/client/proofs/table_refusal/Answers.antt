@@ -1,6 +1,5 @@
 -- `client::table_refusal` tests the length and then the number, in the replies' order.
 use mathlib.Core.Path.{refl, sym, ◌∙◌}
-use borrow.Author.Tests.{not-true, not-false}
 use Rattle.client.specs.Table.Laws.{length_flag, refused_length, refused_client, not_refused}
 use Rattle.client.proofs.table_refusal.Goals as goal
 

@@ -1,6 +1,5 @@
 -- `commands::command_of` reads the two numbers; without either the command is unknown.
 use Rattle.commands.specs.Text.Fields.{first_malformed, second_malformed, number_limited, both_numbers}
-use Rattle.std.proofs.Common.{rules}
 use Rattle.commands.proofs.command_of.Goals as goal
 
 pub returns-in_default : goal.returns-in_default

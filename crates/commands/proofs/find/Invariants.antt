@@ -1,15 +1,7 @@
 -- `commands::find` walks while the byte is another: the place that is looked for stays the same at each step.
-use Prim.Native.Nat.{ℕ, ◌-◌, ◌≤◌}
-use mathlib.Core.Bool.{Bool}
-use mathlib.Core.List.{List}
-use mathlib.Core.Path.{◌≡◌, ◌∙◌, sym}
-use native.Mathlib.Omega.{arith}
-use Rattle.std.proofs.Common.{rules}
-use borrow.Author.Tests.{eq-eqb, ne_eqb}
-use lib.Dec.{eqb}
+use Prim.Native.Nat.{◌-◌, ◌≤◌}
+use mathlib.Core.Path.{◌≡◌}
 use lib.ListN.{length}
-use Rattle.layout.specs.Bytes.{byte_at}
-use Rattle.layout.specs.Bytes.Tests.{first_here, first_later, first_none}
 use Rattle.commands.specs.Text.{place_of}
 use Rattle.commands.proofs.find.Given as goal
 

@@ -2,7 +2,6 @@
 -- fields.
 use Rattle.commands.specs.Text.Fields.{command_other, command_split, command_letter, command_short}
 use Rattle.commands.specs.Text.Fields.{command_numbers}
-use Rattle.std.proofs.Common.{rules}
 use Rattle.commands.proofs.read_command.Goals as goal
 
 pub returns-then-find-ne1 : goal.returns-then-find-ne1

@@ -1,11 +1,6 @@
 -- `commands::read_digits` takes digit after digit: what the digits left spell after the value so far stays the same at
 -- each step.
-use Prim.Native.Nat.{◌+◌, ◌-◌, ◌≤◌}
-use mathlib.Core.Path.{◌≡◌}
 use native.Mathlib.Omega.{arith}
-use Rattle.std.proofs.Common.{rules}
-use lib.ListN.{length, drop}
-use Rattle.commands.specs.Text.{number_from}
 use Rattle.commands.specs.Text.Reading.{read_end, read_low, read_high, read_great, read_past, read_digit}
 use Rattle.commands.proofs.read_digits.Goals as goal
 

@@ -1,6 +1,5 @@
 -- `commands::read_number` goes by the field's length and its first byte.
 use Rattle.commands.specs.Text.Reading.{number_none, number_one, number_zero, number_many}
-use Rattle.std.proofs.Common.{rules}
 use Rattle.commands.proofs.read_number.Goals as goal
 
 pub returns-then-field-eq0 : goal.returns-then-field-eq0

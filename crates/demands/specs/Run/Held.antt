@@ -1,7 +1,7 @@
 -- Demand 2: in a sound file, a search that is not refused finds exactly the rides held at the start and those accepted
 -- since. An accepted insert adds one ride, a split moves some, nothing else changes what is held; and a key is sought
 -- where alone it can be.
-use Rattle.std.specs.Prelude.{ℕ, suc, ◌+◌, ◌≤◌, ◌<◌, ◌≡◌, Bool, true, false, ◌⊎◌, ◌↔◌, length}
+use Rattle.std.specs.Prelude.{ℕ, suc, ◌≤◌, ◌<◌, ◌≡◌, Bool, true, false, ◌⊎◌, ◌↔◌, length}
 use Rattle.std.proofs.Math.Path.{refl, sym, ap, subst}
 use Rattle.std.proofs.Common.{◌∙◌}
 use mathlib.Core.List.{List, [], ◌∷◌, ◌++◌, Memᴰ}

@@ -26,7 +26,7 @@ use Rattle.ride.specs.Call.Left.{Through, search_ways, insert_ways}
 use Rattle.demands.specs.Run.{Memory, Call, Insert, Search, Split, Typed, AllTyped, after, run, replied, answered}
 use Rattle.demands.specs.Run.{payload_in, Finds, Accepts, Accepted, Kept, Ready, route_of}
 use Rattle.demands.specs.Run.Clients.{ready_step, ready_run}
-use Rattle.demands.specs.Run.Held.{payload_held, payload_long, run_finds, through}
+use Rattle.demands.specs.Run.Held.{payload_held, payload_long, through}
 
 -- the payload in the slot of a key
 module _ (m : Memory) (sound : file_sound m.file ≡ true) where

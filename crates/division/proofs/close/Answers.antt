@@ -1,5 +1,4 @@
 -- `division::close` writes the head and then lends the unused slots, which come back as zeros.
-use Rattle.std.proofs.Common.{rules}
 use Rattle.bucket.specs.Region.Divide.{close_written}
 use Rattle.division.proofs.close.Goals as goal
 

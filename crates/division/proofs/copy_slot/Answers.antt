@@ -1,5 +1,4 @@
 -- `division::copy_slot` reads three numbers and writes them one behind the other.
-use Rattle.std.proofs.Common.{rules}
 use Rattle.bucket.specs.Region.Write.{slot_copied}
 use Rattle.division.proofs.copy_slot.Goals as goal
 

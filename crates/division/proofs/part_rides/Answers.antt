@@ -1,8 +1,6 @@
 -- `division::part_rides`: the rides so far are parted; each turn writes one behind both groups and counts it to one.
-use Rattle.std.proofs.Common.{rules}
-use Prim.Native.Nat.{◌-◌}
 use Rattle.address.specs.Rules.{keeps}
-use Rattle.bucket.specs.Region.Divide.{Parted, parted_none}
+use Rattle.bucket.specs.Region.Divide.{parted_none}
 use Rattle.bucket.specs.Region.Divide.{parted_done}
 use Rattle.bucket.specs.Region.Divide.{stay_fits, part_next}
 use Rattle.division.proofs.part_rides.Goals as goal

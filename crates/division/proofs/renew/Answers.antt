@@ -1,5 +1,4 @@
 -- `division::renew`: a region closed without a ride is an empty bucket's bytes.
-use Rattle.std.proofs.Common.{rules}
 use Rattle.bucket.specs.Region.Divide.{emptied}
 use Rattle.division.proofs.renew.Goals as goal
 

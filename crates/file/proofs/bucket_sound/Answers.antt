@@ -1,6 +1,5 @@
 -- `file::bucket_sound` is what the judgment at the bucket's own level says.
 use Rattle.file.specs.File.Region.{known_standing}
-use Rattle.std.proofs.Common.{rules}
 use Rattle.file.proofs.bucket_sound.Goals as goal
 
 pub judge_bucket-requires : goal.judge_bucket-requires

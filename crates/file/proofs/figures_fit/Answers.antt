@@ -1,9 +1,7 @@
 -- `file::figures_fit` tests the ranges first, so that the length they ask for does not wrap.
 use native.Mathlib.Omega.{arith}
-use borrow.Author.Tests.{not-false}
 use Rattle.file.specs.File.Judge.{ranges, figures_out, figures_in}
 use Rattle.file.specs.File.Region.{place_room}
-use Rattle.std.proofs.Common.{rules}
 use Rattle.file.proofs.figures_fit.Goals as goal
 
 pub returns-then-not-ranged : goal.returns-then-not-ranged

@@ -1,6 +1,5 @@
 -- `file::fixed_bytes` tests the mark and cuts out the zeros.
 use Rattle.file.specs.File.Judge.{fixed_read}
-use Rattle.std.proofs.Common.{rules}
 use Rattle.file.proofs.fixed_bytes.Goals as goal
 
 pub returns : goal.returns

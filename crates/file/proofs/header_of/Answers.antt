@@ -1,6 +1,5 @@
 -- `file::header_of` tests length, fixed bytes and ranges in turn; the first that fails leaves no header.
 use Rattle.file.specs.File.Judge.{header_short, header_unfixed, header_unranged, header_judged}
-use Rattle.std.proofs.Common.{rules}
 use Rattle.file.proofs.header_of.Goals as goal
 
 pub returns-then-long-lt16 : goal.returns-then-long-lt16

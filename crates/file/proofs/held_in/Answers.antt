@@ -1,7 +1,6 @@
 -- `file::held_in` reads the count in the bucket's head.
 use native.Mathlib.Omega.{arith}
 use Rattle.file.specs.File.Region.{known_fits, known_count, sound_few}
-use Rattle.std.proofs.Common.{rules}
 use Rattle.file.proofs.held_in.Goals as goal
 
 pub read2-requires : goal.read2-requires

@@ -1,7 +1,6 @@
 -- `file::judge_bucket` judges the bucket's own region at its own level.
 use Rattle.file.specs.File.Region.{standing_slots, standing_low, standing_level, standing_fits}
 use Rattle.file.specs.File.Region.{standing_long, standing_judged, standing_place}
-use Rattle.std.proofs.Common.{rules}
 use Rattle.file.proofs.judge_bucket.Goals as goal
 
 pub start-at-requires : goal.start-at-requires

@@ -2,7 +2,6 @@
 use Prim.Native.Nat.{◌<◌}
 use native.Mathlib.Omega.{arith}
 use Rattle.file.specs.File.Region.{known_slot}
-use Rattle.std.proofs.Common.{rules}
 use Rattle.file.proofs.key_in.Goals as goal
 
 pub key_at-requires : goal.key_at-requires

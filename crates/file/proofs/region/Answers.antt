@@ -1,6 +1,5 @@
 -- `file::region` cuts a region out of the file, at its place and of its length.
 use Rattle.file.specs.File.Region.{known_cut, known_fits, known_long}
-use Rattle.std.proofs.Common.{rules}
 use Rattle.file.proofs.region.Goals as goal
 
 pub slice_bounds-result-end : goal.slice_bounds-result-end

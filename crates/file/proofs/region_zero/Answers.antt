@@ -1,5 +1,4 @@
 -- `file::region_zero` tests the region that is cut out.
-use Rattle.std.proofs.Common.{rules}
 use Rattle.file.proofs.region_zero.Goals as goal
 
 pub returns : goal.returns

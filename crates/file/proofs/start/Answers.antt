@@ -2,7 +2,6 @@
 use mathlib.Core.Path.{refl}
 use native.Mathlib.Omega.{arith}
 use Rattle.file.specs.File.Region.{place_room}
-use Rattle.std.proofs.Common.{rules}
 use Rattle.file.proofs.start.Goals as goal
 
 pub overflow_mul-result-2 : goal.overflow_mul-result-2

@@ -1,6 +1,5 @@
 -- `file::state_fits` tests the level first, so that its span is small, and then the pointer and the buckets.
 use Rattle.file.specs.File.Judge.{state_high, state_is}
-use Rattle.std.proofs.Common.{rules}
 use Rattle.file.proofs.state_fits.Goals as goal
 
 pub returns-then-state-gt-MOST_LEVEL : goal.returns-then-state-gt-MOST_LEVEL

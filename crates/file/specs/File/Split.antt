@@ -11,7 +11,7 @@ use Rattle.address.specs.Compare.{below}
 use Rattle.address.specs.Limits.{first_buckets, no_bucket, most_level, most_buckets}
 use Rattle.address.specs.declared.Image.{Image}
 use Rattle.address.specs.Room.{Room}
-use Rattle.address.specs.Rules.{Formed, buckets, address, level, keeps, splitting, newborn, grown}
+use Rattle.address.specs.Rules.{Formed, buckets, address, keeps, splitting, newborn, grown}
 use Rattle.address.specs.Rules.Hash.{span_pos}
 use Rattle.address.specs.Rules.Cases.{keeps_yes, keeps_no, newborn_is}
 use Rattle.address.specs.Rules.Grow.{grown_formed, grown_buckets}

@@ -1,7 +1,6 @@
 -- `growth::split` judges the header and the room in turn; what passes is split.
 use Rattle.file.specs.File.Judge.{known_passed, room_passed}
 use Rattle.file.specs.File.Split.{split_headless, split_full, split_room}
-use Rattle.std.proofs.Common.{rules}
 use Rattle.growth.proofs.split.Goals as goal
 
 pub returns-then-not-header : goal.returns-then-not-header

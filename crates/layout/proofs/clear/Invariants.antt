@@ -1,11 +1,8 @@
 -- `layout::clear`: after k turns the first k bytes are zero.
-use Rattle.std.proofs.Common.{rules}
 use Prim.Native.Nat.{◌≤◌, ◌-◌}
 use mathlib.Core.Path.{◌≡◌}
 use mathlib.Core.List.{◌++◌}
 use lib.ListN.{length, drop, replicate}
-use native.Mathlib.Omega.{arith}
-use Rattle.layout.specs.Bytes.Edit.{clear_more, clear_done}
 use Rattle.layout.proofs.clear.Given as goal
 
 abbrev pub invariant-loop-k : goal.invariant-loop-k

@@ -1,6 +1,5 @@
 -- `layout::copy14` copies two numbers of eight bytes that overlap in two: fourteen bytes.
 use Rattle.layout.specs.Bytes.Numbers.{fourteen_copied}
-use Rattle.std.proofs.Common.{rules}
 use Rattle.layout.proofs.copy14.Goals as goal
 
 pub returns : goal.returns

@@ -1,6 +1,5 @@
 -- `layout::has_mark`: two bytes are the mark's exactly if their numbers are equal.
 use Rattle.layout.specs.Bytes.Numbers.{mark_read}
-use Rattle.std.proofs.Common.{rules}
 use Rattle.layout.proofs.has_mark.Goals as goal
 
 pub returns : goal.returns

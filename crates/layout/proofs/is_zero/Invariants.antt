@@ -1,12 +1,9 @@
 -- `layout::is_zero`: so far every byte was zero, or not; first in whole words, then byte by byte.
-use Rattle.std.proofs.Common.{rules}
 use Prim.Native.Nat.{ℕ, ◌≤◌, ◌-◌}
 use mathlib.Core.Path.{◌≡◌}
-use native.Mathlib.Omega.{arith}
 use lib.Dec.{eqb}
 use lib.ListN.{length, get_or}
 use Rattle.layout.specs.Bytes.{all_below}
-use Rattle.layout.specs.Bytes.Tests.{zero_more, zero_done}
 use Rattle.layout.proofs.is_zero.Given as goal
 
 abbrev pub invariant-loop-k : goal.invariant-loop-k

@@ -1,9 +1,6 @@
 -- `layout::put`: after k turns the first k bytes of the source stand at the place.
-use Rattle.std.proofs.Common.{rules}
-use Prim.Native.Nat.{◌≤◌, ◌-◌}
-use mathlib.Core.Path.{◌≡◌, refl}
-use lib.ListN.{length}
-use lib.Seq.{paste, paste-zero}
+use mathlib.Core.Path.{refl}
+use lib.Seq.{paste-zero}
 use native.Mathlib.Omega.{arith}
 use Rattle.layout.specs.Bytes.Edit.{copy_more, copy_done}
 use Rattle.layout.proofs.put.Goals as goal

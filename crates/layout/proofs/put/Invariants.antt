@@ -1,11 +1,8 @@
 -- `layout::put`: after k turns the first k bytes of the source stand at the place.
-use Rattle.std.proofs.Common.{rules}
 use Prim.Native.Nat.{◌≤◌, ◌-◌}
-use mathlib.Core.Path.{◌≡◌, refl}
+use mathlib.Core.Path.{◌≡◌}
 use lib.ListN.{length}
-use lib.Seq.{paste, paste-zero}
-use native.Mathlib.Omega.{arith}
-use Rattle.layout.specs.Bytes.Edit.{copy_more, copy_done}
+use lib.Seq.{paste}
 use Rattle.layout.proofs.put.Given as goal
 
 abbrev pub invariant-loop-k : goal.invariant-loop-k

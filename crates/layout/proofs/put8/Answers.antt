@@ -1,6 +1,5 @@
 -- `layout::put8`: what is put is the number's eight bytes.
 use Rattle.layout.specs.Bytes.Numbers.{eight_put}
-use Rattle.std.proofs.Common.{rules}
 use Rattle.layout.proofs.put8.Goals as goal
 
 pub returns : goal.returns

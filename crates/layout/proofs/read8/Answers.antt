@@ -1,5 +1,4 @@
 -- `layout::read8`: the number in the part that is cut out is the one at its place.
-use Rattle.std.proofs.Common.{rules}
 use Rattle.layout.specs.Bytes.Numbers.{cut_read}
 use Rattle.layout.proofs.read8.Goals as goal
 

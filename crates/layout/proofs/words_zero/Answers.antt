@@ -1,6 +1,5 @@
 -- `layout::words_zero`: what was seen so far is zero if every byte of the words so far is.
-use Rattle.std.proofs.Common.{rules}
-use Prim.Native.Nat.{ℕ, ◌*◌, ◌-◌, ◌≤◌}
+use Prim.Native.Nat.{ℕ, ◌*◌}
 use mathlib.Core.Path.{◌≡◌, sym, ap, ◌∙◌}
 use native.Mathlib.Omega.{arith}
 use lib.Dec.{eqb}

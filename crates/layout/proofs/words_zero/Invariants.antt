@@ -1,13 +1,9 @@
 -- `layout::words_zero`: what was seen so far is zero if every byte of the words so far is.
-use Rattle.std.proofs.Common.{rules}
 use Prim.Native.Nat.{ℕ, ◌*◌, ◌-◌, ◌≤◌}
-use mathlib.Core.Path.{◌≡◌, sym, ap, ◌∙◌}
-use native.Mathlib.Omega.{arith}
+use mathlib.Core.Path.{◌≡◌}
 use lib.Dec.{eqb}
 use lib.ListN.{get_or}
 use Rattle.layout.specs.Bytes.{all_below}
-use Rattle.layout.specs.Bytes.Numbers.{words_more}
-use Rattle.layout.specs.Bytes.Tests.{all_none}
 use Rattle.layout.proofs.words_zero.Given as goal
 
 abbrev pub invariant-loop-k : goal.invariant-loop-k

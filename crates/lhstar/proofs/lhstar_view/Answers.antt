@@ -1,5 +1,4 @@
 -- `lhstar::lhstar_view` gives the place of a view with a byte or more, and 0 and 0 of one without.
-use Rattle.std.proofs.Common.{rules}
 use Prim.Native.Nat.{◌≤◌}
 use native.Mathlib.Omega.{arith}
 use Rattle.address.specs.Limits.{most_buckets}

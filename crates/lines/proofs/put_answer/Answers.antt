@@ -1,5 +1,4 @@
 -- `lines::put_answer` writes its three parts side by side; they fit since no bucket number has more than five digits.
-use Rattle.std.proofs.Common.{rules}
 use Rattle.lines.specs.Lines.Written.{heading_room, route_room, answer_end_room, answer_wrote}
 use Rattle.lines.proofs.put_answer.Goals as goal
 

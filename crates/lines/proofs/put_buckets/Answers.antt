@@ -1,5 +1,4 @@
 -- `lines::put_buckets` goes by the two cases: refused, or the two numbers with a separator between them.
-use Rattle.std.proofs.Common.{rules}
 use Rattle.lines.specs.Lines.Written.{split_dash_room, split_dash_wrote, old_room, greater_room, new_room}
 use Rattle.lines.specs.Lines.Written.{buckets_wrote}
 use Rattle.lines.proofs.put_buckets.Goals as goal

@@ -1,6 +1,5 @@
 -- `lines::put_byte` stores the byte, which is to write it over what stood there.
 use Rattle.lines.specs.Lines.Edit.{wrote_byte}
-use Rattle.std.proofs.Common.{rules}
 use Rattle.lines.proofs.put_byte.Goals as goal
 
 pub returns : goal.returns

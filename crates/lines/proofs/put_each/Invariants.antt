@@ -1,12 +1,7 @@
 -- `lines::put_each` writes a separator and a number in each turn: what is written so far is each number passed.
 use Prim.Native.Nat.{◌-◌, ◌≤◌}
-use native.Mathlib.Omega.{arith}
-use Rattle.std.proofs.Common.{rules}
 use lib.ListN.{length, take}
 use Rattle.lines.specs.Lines.{Wrote, each_after}
-use Rattle.lines.specs.Lines.Edit.{wrote_length}
-use Rattle.lines.specs.Lines.Written.{wide_number, each_start, separator_room, each_number_room, each_next}
-use Rattle.lines.specs.Lines.Written.{each_wrote}
 use Rattle.lines.proofs.put_each.Given as goal
 
 abbrev pub invariant-loop-i : goal.invariant-loop-i

@@ -1,5 +1,4 @@
 -- `lines::put_heading` writes its four parts side by side.
-use Rattle.std.proofs.Common.{rules}
 use Rattle.lines.specs.Lines.Written.{letter_room, space_room, reply_room, second_space_room, heading_wrote}
 use Rattle.lines.proofs.put_heading.Goals as goal
 

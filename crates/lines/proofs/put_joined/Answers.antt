@@ -1,6 +1,5 @@
 -- `lines::put_joined` goes by the two cases: no number, or a first one and each other after a separator.
-use Rattle.std.proofs.Common.{rules}
-use Rattle.lines.specs.Lines.Written.{wide_number, dash_room, dash_wrote, first_room, others_room, joined_wrote}
+use Rattle.lines.specs.Lines.Written.{dash_room, dash_wrote, first_room, others_room, joined_wrote}
 use Rattle.lines.proofs.put_joined.Goals as goal
 
 pub put_byte-requires : goal.put_byte-requires

@@ -1,6 +1,5 @@
 -- `lines::put_ride` reads reply, count and buckets from the block and writes the line of their answer.
 use Rattle.lines.specs.Lines.Written.{route_taken, taken_room, ride_wrote}
-use Rattle.std.proofs.Common.{rules}
 use Rattle.lines.proofs.put_ride.Goals as goal
 
 pub slice_bounds-put_answer-end : goal.slice_bounds-put_answer-end

@@ -1,5 +1,4 @@
 -- `lines::put_scan` writes its three parts side by side; they fit since no bucket number has more than five digits.
-use Rattle.std.proofs.Common.{rules}
 use Rattle.lines.specs.Lines.Written.{scan_heading_room, scanned_room, scan_end_room, scan_wrote}
 use Rattle.lines.proofs.put_scan.Goals as goal
 

@@ -1,5 +1,4 @@
 -- `lines::put_scanned` goes by the two cases: refused, or the visits, a space and the count side by side.
-use Rattle.std.proofs.Common.{rules}
 use Rattle.lines.specs.Lines.Written.{scan_dash_room, scan_dash_wrote, visits_room, count_space_room, count_room}
 use Rattle.lines.specs.Lines.Written.{scanned_wrote}
 use Rattle.lines.proofs.put_scanned.Goals as goal

@@ -1,6 +1,5 @@
 -- `lines::put_split` writes its three parts side by side; they fit since no number of four bytes has more than ten
 -- digits.
-use Rattle.std.proofs.Common.{rules}
 use Rattle.lines.specs.Lines.Written.{split_heading_room, buckets_room, split_end_room, split_wrote}
 use Rattle.lines.proofs.put_split.Goals as goal
 

@@ -1,5 +1,4 @@
 -- `lines::put_unknown` writes its two bytes side by side.
-use Rattle.std.proofs.Common.{rules}
 use Rattle.lines.specs.Lines.Written.{unknown_wrote}
 use Rattle.lines.proofs.put_unknown.Goals as goal
 

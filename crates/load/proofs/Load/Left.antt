@@ -1,6 +1,6 @@
 -- What the call leaves, by its ways out: what holds of every way out holds of the call. And that it is insert's outcome,
 -- followed by split's on the file that the insert left.
-use Rattle.std.specs.Prelude.{ℕ, ◌≤◌, ◌≡◌, Bool, ◌&&◌, List, true, false, cond, not, eqb, length}
+use Rattle.std.specs.Prelude.{ℕ, ◌≡◌, Bool, ◌&&◌, List, true, false, not, eqb, length}
 use Rattle.std.proofs.Common.{refl, sym, ap, subst, ◌∙◌, arith}
 use Rattle.std.proofs.Math.Bool.{true≢false}
 use borrow.Author.Tests.{not-false}
@@ -97,15 +97,15 @@ module _ (file table : List ℕ) (client key : ℕ) (payload : List ℕ) (t : �
           done : Through (eqb (length answer) 24 && eqb (length payload) 14) file table client key
               → held file key ≡ false → full file key ≡ false
               → together file table client key (accepted file table client key payload t answer)
-                  (split (inserted file key payload))
+              (split (inserted file key payload))
               ≡ together file table client key (accepted file table client key payload t answer)
-                  (split file)
+              (split file)
           done w free room =
               let open_to = passed file table client w.none in
               let (answers, olds, news) = inserted_split file bytes open_to.header_is_sound key payload whole
               (own_sound file table client key open_to w.sound) free room (room_on file key t e) in
               together_same file table client key (accepted file table client key payload t answer)
-                  (split (inserted file key payload)) (split file) answers olds
+              (split (inserted file key payload)) (split file) answers olds
               news
 
           same : together file table client key (insert file table client key payload answer)

@@ -1,6 +1,5 @@
 -- `load::commit` places the ride, and then does what is left of the decision.
 use Rattle.load.specs.Load.Own.{divisible, commit_done, commit_not_due, commit_no_room}
-use Rattle.std.proofs.Common.{rules}
 use Rattle.load.proofs.commit.Goals as goal
 
 pub divide-requires : goal.divide-requires

@@ -1,6 +1,5 @@
 -- `load::decide` asks in turn whether the bucket is overfull, a split due and room for it.
 use Rattle.load.specs.Load.Decision.{decide_below, decide_not, decide_no_room, decide_done}
-use Rattle.std.proofs.Common.{rules}
 use Rattle.load.proofs.decide.Goals as goal
 
 pub returns-then-count-header : goal.returns-then-count-header

@@ -1,6 +1,5 @@
 -- `load::number_of` tells the case apart.
 use Rattle.load.specs.Load.Decision.{number_zero, number_one, number_two}
-use Rattle.std.proofs.Common.{rules}
 use Rattle.load.proofs.number_of.Goals as goal
 
 pub returns-in-NotDue : goal.returns-in-NotDue

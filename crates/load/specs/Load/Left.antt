@@ -3,29 +3,27 @@
 use Rattle.std.specs.Prelude.{ℕ, ◌≤◌, ◌<◌, ◌≡◌, Bool, ◌&&◌, List, [], ◌∷◌, ◌++◌, leb, length}
 use Rattle.std.proofs.Math.Path.{refl, sym, ap, subst}
 use Rattle.std.proofs.Common.{ap₂, ◌∙◌, arith}
-use Rattle.std.proofs.Math.Bool.{true, false, cond, not, and-false, true≢false}
+use Rattle.std.proofs.Math.Bool.{true, false, cond, not, and-false}
 use Rattle.std.proofs.Math.Logic.{by_cases}
 use Rattle.std.proofs.Math.Decide.{ℕ_discrete}
-use borrow.Author.Tests.{eqb-true, eqb-false, eq-eqb, lt-leb, not-false}
+use borrow.Author.Tests.{eqb-true, eqb-false, eq-eqb, lt-leb}
 use Rattle.std.proofs.Math.Dec.{eqb}
 use Rattle.address.specs.Limits.{first_buckets}
 use Rattle.address.specs.Load.{threshold_fits}
 use Rattle.address.specs.Rules.{splitting, newborn}
-use Rattle.layout.specs.Bytes.{Bytes, all_zero}
-use Rattle.layout.specs.Bytes.Tests.{and_right}
+use Rattle.layout.specs.Bytes.{all_zero}
 use Rattle.layout.specs.Replies.{Refusal, Numbers, refuse, reply, reply_none, reply_here, reply_past, reply_append}
 use Rattle.layout.specs.Replies.{numbers_append, reply_among}
 use Rattle.layout.specs.Replies.Passing.{passes_back, passes_split, passes_on, refused_on}
-use Rattle.bucket.specs.Region.{Whole, every}
+use Rattle.bucket.specs.Region.{every}
 use Rattle.client.specs.Table.{image_of}
 use Rattle.file.specs.File.{most_of, state_of, buckets_of, header_sound, region_of, bucket_sound_in, SplitOutcome, split}
 use Rattle.file.specs.File.Split.{split_reply}
 use Rattle.answer.specs.Answer.{block, no_payload}
 use Rattle.route.specs.Way.{early, way_of, held, full}
-use Rattle.route.specs.Way.Keeping.{passed, own_sound}
 use Rattle.route.specs.Way.Open.{early_numbered, early_passes}
 use Rattle.ride.specs.Call.{Outcome, adjusted_table, count_then, inserted, insert}
-use Rattle.ride.specs.Call.Left.{Through, insert_ways, insert_reply}
+use Rattle.ride.specs.Call.Left.{Through, insert_reply}
 use Rattle.load.specs.declared.Control.{Control}
 use Rattle.load.specs.declared.Control.TheVariants.{NotDue, Done, NoRoom}
 use Rattle.load.specs.Load.{number, decision_on, Loaded, alone, together, decided, controlled, unranged}
@@ -33,7 +31,6 @@ use Rattle.load.specs.Load.{insert_split}
 use Rattle.load.specs.Load.Decision.{not_due_done, no_room_done, done_number}
 use Rattle.load.specs.Load.Own.{controlled_refused, controlled_accepted}
 use Rattle.load.specs.Load.Decision.{other_number, room_on}
-use Rattle.load.specs.Load.Regions.{inserted_split}
 
 -- a refusal that leaves table and file as they were: not 8 nor 9, and with 14 the answer block too
 pub record Spared (file table answer : List ℕ) (o : Loaded) : Type 0 where

@@ -1,7 +1,7 @@
 -- `order::earlier`: the two buckets reached are visited in the order of the two begun with; where they are apart, their
 -- numbers tell it.
 use native.Mathlib.Omega.{arith}
-use Rattle.order.specs.Earlier.{Lockstep, lockstep_start, lockstep_past, lockstep_believed, lockstep_siblings}
+use Rattle.order.specs.Earlier.{lockstep_start, lockstep_past, lockstep_believed, lockstep_siblings}
 use Rattle.order.specs.Earlier.{lockstep_parents}
 use Rattle.order.proofs.earlier.Goals as goal
 

@@ -1,8 +1,6 @@
 -- `order::earlier`: the two buckets reached are visited in the order of the two begun with; where they are apart, their
 -- numbers tell it.
-use native.Mathlib.Omega.{arith}
-use Rattle.order.specs.Earlier.{Lockstep, lockstep_start, lockstep_past, lockstep_believed, lockstep_siblings}
-use Rattle.order.specs.Earlier.{lockstep_parents}
+use Rattle.order.specs.Earlier.{Lockstep}
 use Rattle.order.proofs.earlier.Given as goal
 
 abbrev pub invariant-loop-one : goal.invariant-loop-one

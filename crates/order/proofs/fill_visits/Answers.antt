@@ -1,9 +1,7 @@
 -- `order::fill_visits`: the list holds all messages sent so far, of which the first ones are handled; each turn handles
 -- one and writes what it sends. Once all buckets have had their turn, the visits stand in the list.
-use Rattle.std.proofs.Common.{rules}
-use Prim.Native.Nat.{◌-◌, ◌≤◌}
 use native.Mathlib.Omega.{arith}
-use Rattle.order.specs.Queue.{Visiting, visiting_start, visiting_room, visiting_next, visiting_done}
+use Rattle.order.specs.Queue.{visiting_start, visiting_room, visiting_next, visiting_done}
 use Rattle.order.proofs.fill_visits.Goals as goal
 
 pub loop-handled-init : goal.loop-handled-init

@@ -1,5 +1,4 @@
 -- `order::message_level` tells a bucket's message level: by the image, or by the leading zeros of its number.
-use Rattle.std.proofs.Common.{rules}
 use native.Mathlib.Omega.{arith}
 use Rattle.address.specs.Rules.Order.{told_digits}
 use Rattle.order.proofs.message_level.Goals as goal

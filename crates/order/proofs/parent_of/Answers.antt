@@ -1,5 +1,4 @@
 -- `order::parent_of` takes off the greatest power of two, which the leading zeros tell.
-use Rattle.std.proofs.Common.{rules}
 use native.Mathlib.Omega.{arith}
 use Rattle.address.specs.Rules.Parent.{by_zeros}
 use Rattle.address.specs.Rules.Earlier.{parent_lower}

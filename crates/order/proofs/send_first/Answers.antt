@@ -1,14 +1,12 @@
 -- `order::send_first`: the numbers written so far and those still to come are all of them.
-use Rattle.std.proofs.Common.{rules}
-use Prim.Native.Nat.{◌-◌, ◌≤◌}
-use mathlib.Core.Path.{◌≡◌, refl, ap}
+use Prim.Native.Nat.{◌-◌}
+use mathlib.Core.Path.{refl, ap}
 use native.Mathlib.Omega.{arith}
-use lib.ListN.{length, length-set}
+use lib.ListN.{length-set}
 use Rattle.address.specs.Rules.{numbers}
 use Rattle.address.specs.Rules.Earlier.{numbers_length}
 use Rattle.address.specs.Rules.Order.{numbers_cons, numbers_none}
-use Rattle.layout.specs.Bytes.{edit}
-use Rattle.order.specs.Queue.{Writing, writing_start, writing_more, writing_done}
+use Rattle.order.specs.Queue.{writing_start, writing_more, writing_done}
 use Rattle.order.proofs.send_first.Goals as goal
 
 pub loop-k-init : goal.loop-k-init

@@ -1,15 +1,11 @@
 -- `order::send_on`: the children written so far and those still to come are all that the bucket sends to.
-use Rattle.std.proofs.Common.{rules}
-use Prim.Native.Nat.{ℕ, ◌+◌, ◌-◌, ◌≤◌}
-use mathlib.Core.Path.{◌≡◌, refl, sym, ap, ◌∙◌}
-use mathlib.Core.List.{◌∷◌}
-use native.Mathlib.Omega.{arith}
-use lib.ListN.{length, length-set}
+use Prim.Native.Nat.{◌+◌, ◌-◌, ◌≤◌}
+use mathlib.Core.Path.{◌≡◌}
+use lib.ListN.{length}
 use Rattle.address.specs.Limits.{first_buckets}
-use Rattle.address.specs.Rules.Cases.{child_is}
-use Rattle.address.specs.Rules.Order.{born, born_cons, born_none, born_length}
+use Rattle.address.specs.Rules.Order.{born}
 use Rattle.layout.specs.Bytes.{edit}
-use Rattle.order.specs.Queue.{Writing, writing_start, writing_more, writing_done}
+use Rattle.order.specs.Queue.{Writing}
 use Rattle.order.proofs.send_on.Given as goal
 
 abbrev pub invariant-loop-level : goal.invariant-loop-level

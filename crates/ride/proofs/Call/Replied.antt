@@ -1,5 +1,5 @@
 -- What an accepted insert leaves, from what was found in the own bucket and what was written.
-use Rattle.std.specs.Prelude.{ℕ, ◌+◌, ◌≡◌, true, false, leb, ltb, List}
+use Rattle.std.specs.Prelude.{ℕ, ◌+◌, ◌≡◌, false, leb, ltb, List}
 use Rattle.std.proofs.Common.{ap₂, ◌∙◌}
 use Rattle.address.specs.declared.Image.{Image}
 use Rattle.bucket.specs.Region.{count_of}

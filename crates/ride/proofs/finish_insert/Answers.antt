@@ -2,7 +2,6 @@
 use borrow.Author.Tests.{leb-false}
 use Rattle.ride.specs.Call.Replied.{insert_held, insert_full}
 use Rattle.ride.proofs.Call.Replied.{insert_done}
-use Rattle.std.proofs.Common.{rules}
 use Rattle.ride.proofs.finish_insert.Goals as goal
 
 pub returns-then-held : goal.returns-then-held

@@ -1,6 +1,5 @@
 -- `ride::search` refuses a block of another length, refuses before any route, or walks.
 use Rattle.ride.specs.Call.Replied.{search_unfit, search_refused, search_walked}
-use Rattle.std.proofs.Common.{rules}
 use Rattle.ride.proofs.search.Goals as goal
 
 pub returns-then-answer-ne24 : goal.returns-then-answer-ne24

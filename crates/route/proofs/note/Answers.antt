@@ -1,7 +1,6 @@
 -- `route::note` puts the bucket at the place that the count tells.
 use mathlib.Core.Path.{refl}
 use Rattle.route.specs.Way.Noted.{note_first, note_second, note_third}
-use Rattle.std.proofs.Common.{rules}
 use Rattle.route.proofs.note.Goals as goal
 
 pub returns-then-walk-eq0 : goal.returns-then-walk-eq0

@@ -1,7 +1,6 @@
 -- `route::refusal` judges in the replies' order; each way out is a law of its own.
 use Rattle.route.specs.Way.Open.{refusal_caller, refusal_header, refusal_there, refusal_state, refusal_image}
 use Rattle.route.specs.Way.Open.{refusal_ahead, refusal_none}
-use Rattle.std.proofs.Common.{rules}
 use Rattle.route.proofs.refusal.Goals as goal
 
 pub returns-then-refused-ne0 : goal.returns-then-refused-ne0

@@ -1,10 +1,7 @@
 -- `route::walk_route`: what is noted and what is still to come are the route from the first bucket; each bucket keeps
 -- the key, sends it on or is unsound.
-use Rattle.std.proofs.Common.{rules}
 use Prim.Native.Nat.{◌≤◌, ◌-◌}
-use Rattle.route.specs.Way.Route.{Walking, way_from, behind_room, level_room, walk_starts, walk_there, walk_keeps}
-use Rattle.route.specs.Way.Route.{walk_stops, walk_sends, walk_short, walked_way}
-use Rattle.file.specs.File.Region.{known_standing}
+use Rattle.route.specs.Way.Route.{Walking, way_from}
 use Rattle.route.proofs.walk_route.Given as goal
 
 abbrev pub invariant-loop-next : goal.invariant-loop-next

@@ -1,5 +1,4 @@
 -- `scan::better`: a sound bucket is not taken, and an unsound one where it is visited earlier.
-use Rattle.std.proofs.Common.{rules}
 use Rattle.scan.specs.Scan.Unsound.{better_sound, better_next, better_best}
 use Rattle.scan.proofs.better.Goals as goal
 

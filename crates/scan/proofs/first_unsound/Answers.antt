@@ -1,9 +1,8 @@
 -- `scan::first_unsound`: the lowest one where the client believes in it; otherwise the best of those that are left is
 -- the best of all, turn by turn.
 use Rattle.std.proofs.Common.{rules}
-use Prim.Native.Nat.{◌-◌}
 use Rattle.file.specs.File.Region.{known_below}
-use Rattle.scan.specs.Scan.Unsound.{Searching, searching_start, searching_next, searching_done, lowest_first}
+use Rattle.scan.specs.Scan.Unsound.{searching_start, searching_next, searching_done, lowest_first}
 use Rattle.scan.specs.Scan.Unsound.{lowest_room}
 use Rattle.scan.specs.Scan.Unsound.{believed_some}
 use Rattle.scan.specs.Scan.Way.{starting_image_room}

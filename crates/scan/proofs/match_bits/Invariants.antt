@@ -1,11 +1,6 @@
 -- `scan::match_bits`: the bits of the keys from the k-th on, found from the last to the first.
-use Rattle.std.proofs.Common.{rules}
-use Prim.Native.Nat.{◌≤◌, ◌<◌}
-use native.Mathlib.Omega.{arith}
-use Rattle.bucket.specs.Region.Divide.{one_at_most}
 use Rattle.scan.specs.Scan.{keys_in}
 use Rattle.scan.specs.Scan.Bits.{Tested}
-use Rattle.scan.specs.Scan.Tally.{tested_none, tested_used, tested_more, tested_room, tested_done}
 use Rattle.scan.proofs.match_bits.Given as goal
 
 abbrev pub invariant-loop-k : goal.invariant-loop-k

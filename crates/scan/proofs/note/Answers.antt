@@ -1,5 +1,4 @@
 -- `scan::note`: a place past the end is none of the list, so that writing there changes nothing.
-use Rattle.std.proofs.Common.{rules}
 use Rattle.scan.specs.Scan.Notes.{note_past}
 use Rattle.scan.proofs.note.Goals as goal
 

@@ -1,11 +1,8 @@
 -- `scan::put_matches`: the matches of the buckets that are left, written behind those that stand there, make the whole
 -- write.
-use Rattle.std.proofs.Common.{rules}
 use Prim.Native.Nat.{◌-◌}
 use lib.ListN.{length}
-use Rattle.scan.specs.Scan.Fill.{Written, write_none, write_few, write_room, write_more, write_done}
-use Rattle.scan.specs.Scan.Notes.{noted_sound}
-use Rattle.scan.specs.Scan.Way.{way_exists}
+use Rattle.scan.specs.Scan.Fill.{Written}
 use Rattle.scan.proofs.put_matches.Given as goal
 
 abbrev pub invariant-loop-k : goal.invariant-loop-k

@@ -1,5 +1,4 @@
 -- `scan::scan` refuses 2 to 6 and 11, and scans along the visit order of the client's image.
-use Rattle.std.proofs.Common.{rules}
 use Rattle.scan.specs.Scan.Replied.{scan_early, opened_short, opened_long}
 use Rattle.scan.specs.Scan.Way.{starting, starting_long}
 use Rattle.scan.proofs.scan.Goals as goal

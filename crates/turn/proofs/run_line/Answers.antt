@@ -1,7 +1,6 @@
 -- `turn::run_line` goes by the command that the line is.
 use Rattle.turn.specs.Session.Laws.{split_room, insert_room, search_room, scan_room, line_done, line_split}
 use Rattle.turn.specs.Session.Laws.{line_unknown}
-use Rattle.std.proofs.Common.{rules}
 use Rattle.turn.proofs.run_line.Goals as goal
 
 pub run_split-requires : goal.run_split-requires

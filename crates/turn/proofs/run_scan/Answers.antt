@@ -1,6 +1,5 @@
 -- `turn::run_scan`: what scan told, and the line of it; its visits fit the list.
 use Rattle.turn.specs.Session.Laws.{visits_few, visits_taken, visits_room, scan_done}
-use Rattle.std.proofs.Common.{rules}
 use Rattle.turn.proofs.run_scan.Goals as goal
 
 pub slice_bounds-visits-end : goal.slice_bounds-visits-end

@@ -1,6 +1,5 @@
 -- `turn::run_split`: what split told, and the line of it.
 use Rattle.turn.specs.Session.Laws.{split_done}
-use Rattle.std.proofs.Common.{rules}
 use Rattle.turn.proofs.run_split.Goals as goal
 
 pub returns : goal.returns

@@ -1,7 +1,6 @@
 -- `upkeep::check` judges the header and then each region: 5, 7 with the lowest unsound one, or 0.
 use Rattle.file.specs.File.Judge.{known_passed}
 use Rattle.file.specs.File.Region.{check_header, check_region, check_none}
-use Rattle.std.proofs.Common.{rules}
 use Rattle.upkeep.proofs.check.Goals as goal
 
 pub returns-then-not-header : goal.returns-then-not-header

@@ -1,6 +1,5 @@
 -- `upkeep::create` refuses figures that do not fit, or writes the created file.
 use Rattle.file.specs.File.Create.{create_fits, create_refused, create_done}
-use Rattle.std.proofs.Common.{rules}
 use Rattle.upkeep.proofs.create.Goals as goal
 
 pub returns-then-not-figures_fit : goal.returns-then-not-figures_fit

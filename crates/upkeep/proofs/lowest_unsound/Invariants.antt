@@ -1,7 +1,6 @@
 -- `upkeep::lowest_unsound`: the lowest unsound region from here on is the lowest of all.
 use Prim.Native.Nat.{◌≤◌, ◌-◌}
-use Rattle.file.specs.File.Region.{Lower, lower_none, lower_here, lower_more, lower_end}
-use Rattle.std.proofs.Common.{rules}
+use Rattle.file.specs.File.Region.{Lower}
 use Rattle.upkeep.proofs.lowest_unsound.Given as goal
 
 abbrev pub invariant-loop-region : goal.invariant-loop-region

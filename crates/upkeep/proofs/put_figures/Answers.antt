@@ -1,6 +1,5 @@
 -- `upkeep::put_figures` writes the mark, then the figures behind it: a new file's header.
 use Rattle.file.specs.File.Create.{header_written}
-use Rattle.std.proofs.Common.{rules}
 use Rattle.upkeep.proofs.put_figures.Goals as goal
 
 pub returns : goal.returns

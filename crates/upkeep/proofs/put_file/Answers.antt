@@ -1,6 +1,5 @@
 -- `upkeep::put_file` writes zeros, the header over them and the first bucket's region: the created file.
 use Rattle.file.specs.File.Create.{create_room, created_written}
-use Rattle.std.proofs.Common.{rules}
 use Rattle.upkeep.proofs.put_file.Goals as goal
 
 pub slice_bounds-renew-end : goal.slice_bounds-renew-end

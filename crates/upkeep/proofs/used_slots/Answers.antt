@@ -1,7 +1,6 @@
 -- `upkeep::used_slots` reads a sound bucket's count and cuts that many slots out of the file: the view.
 use native.Mathlib.Omega.{arith}
 use Rattle.file.specs.File.Region.{known_fits, known_there, view_fits, view_used}
-use Rattle.std.proofs.Common.{rules}
 use Rattle.upkeep.proofs.used_slots.Goals as goal
 
 pub read2-requires : goal.read2-requires

@@ -2,7 +2,6 @@
 use Rattle.file.specs.File.Judge.{known_passed, room_passed}
 use Rattle.file.specs.File.Region.{view_headless, view_past, view_there, view_bad}
 use Rattle.file.specs.File.Split.{split_sound}
-use Rattle.std.proofs.Common.{rules}
 use Rattle.upkeep.proofs.view.Goals as goal
 
 pub returns-then-not-header : goal.returns-then-not-header

@@ -1,9 +1,7 @@
 -- `ridefile::session::run_lines` goes line by line: what is written so far, and what the rest prints, stays the whole.
-use Prim.Native.Nat.{◌-◌}
-use mathlib.Core.Path.{◌≡◌, refl}
+use mathlib.Core.Path.{refl}
 use Rattle.std.proofs.Common.{rules}
-use lib.ListN.{length}
-use Rattle.turn.specs.Session.Laws.{Printing, printing_none, printing_more, printing_cut, printing_done}
+use Rattle.turn.specs.Session.Laws.{printing_none, printing_more, printing_cut, printing_done}
 use Rattle.ridefile.proofs.session.run_lines.Goals as goal
 
 pub loop-from-init : goal.loop-from-init

@@ -1,9 +1,8 @@
 -- `ridefile::session::run_lines` goes line by line: what is written so far, and what the rest prints, stays the whole.
 use Prim.Native.Nat.{◌-◌}
-use mathlib.Core.Path.{◌≡◌, refl}
-use Rattle.std.proofs.Common.{rules}
+use mathlib.Core.Path.{◌≡◌}
 use lib.ListN.{length}
-use Rattle.turn.specs.Session.Laws.{Printing, printing_none, printing_more, printing_cut, printing_done}
+use Rattle.turn.specs.Session.Laws.{Printing}
 use Rattle.ridefile.proofs.session.run_lines.Given as goal
 
 abbrev pub invariant-loop-from : goal.invariant-loop-from
