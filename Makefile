@@ -5,7 +5,7 @@ PREFIX ?= /usr/local
 archive = target/staticlib/liblhstar.a
 header = include/lhstar.h
 root = $(DESTDIR)$(PREFIX)
-sources := $(shell find crates.txt crates -name must-fail -prune -o -print)
+sources := crates.txt $(shell find crates/*/src crates/*/specs crates/*/proofs)
 
 .PHONY: all install uninstall
 .DELETE_ON_ERROR:
@@ -13,7 +13,8 @@ sources := $(shell find crates.txt crates -name must-fail -prune -o -print)
 all: $(archive)
 
 $(archive): $(sources)
-	rt staticlib lhstar
+	cd crates/lhstar && rt lib
+	install -D -m 644 crates/lhstar/out/liblhstar.a $(archive)
 
 # The version stands in the header.
 install: $(archive)

@@ -30,6 +30,6 @@ fn archive_folder() -> PathBuf {
 
 fn tell_what_to_do(archive: &Path) {
     println!("cargo::error=the proved library is not built: there is no file {}", archive.display());
-    println!("cargo::error=run `rt staticlib lhstar` in the project's root; it writes target/staticlib/{ARCHIVE}");
+    println!("cargo::error=run `make` in the project's root; it writes target/staticlib/{ARCHIVE}");
     println!("cargo::error=if you have {ARCHIVE} elsewhere, name its folder in the variable {FOLDER_VARIABLE}");
 }

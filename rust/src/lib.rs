@@ -30,7 +30,7 @@
 //!
 //! # Linking
 //!
-//! The build looks for `liblhstar.a`, which `rt staticlib lhstar` writes, in `../target/staticlib`, or in the folder
+//! The build looks for `liblhstar.a`, which `make` writes, in `../target/staticlib`, or in the folder
 //! that the variable `LHSTAR_LIB_DIR` names. The archive is for x86-64.
 
 #![no_std]

@@ -76,7 +76,7 @@ pub adjusted : ℕ → Image → ℕ → ℕ → Bool → Image
 adjusted N image a j kept = cond kept image (cond (ltb image.level j) (wrapped N (j - 1) (suc a)) image)
 
 -- The image after a key was sent: it uses the first bucket's address and level.
-pub image_after : ℕ → Image → Image → ℕ → Image
+unfoldable pub image_after : ℕ → Image → Image → ℕ → Image
 image_after N file image C =
     adjusted N image (address N image C) (level N file (address N image C))
     (keeps N (address N image C) (level N file (address N image C)) C)
@@ -133,7 +133,7 @@ numbers a (suc c) = a ∷ numbers (suc a) c
 
 -- The client sends to each bucket a it believes in, in number order, with message level i'+1 if a < n' or a ≥ 2^i',
 -- otherwise i'; round 0.
-pub opening : ℕ → Image → List Message
+unfoldable pub opening : ℕ → Image → List Message
 opening N image = map (λ a. message a (level N image a) 0) (numbers 0 (buckets N image))
 
 -- Bucket a sends, for each of the c levels k above m in order, to a + 2^(k-1) with message level k, one round after its

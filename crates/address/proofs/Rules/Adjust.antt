@@ -12,12 +12,12 @@ use Rattle.address.specs.Rules.Cases.{buckets_is, level_split, level_low, keeps_
 use Rattle.address.specs.Rules.Cases.{adjusted_behind}
 use Rattle.address.specs.Rules.Grow.{wrapped_formed, wrapped_buckets}
 use Rattle.address.specs.Rules.Route.{first_own, first_level, left_level, left_low, place}
-use Rattle.address.specs.Rules.Adjust.{image_after_is}
 
 module _ (N : ℕ) (positive : 0 < N) (file : Image) (formed : Formed N file)
     (image : Image) (image_formed : Formed N image) (behind : NotAhead N file image) (C : ℕ) where
   pub after_kept : hash N (level N file (address N image C)) C ≡ address N image C → image_after N file image C ≡ image
-  after_kept e = image_after_is N file image C ∙ rw (keeps_yes N (address N image C) (level N file (address N image C)) C e)
+  unfolding image_after
+  after_kept e = rw (keeps_yes N (address N image C) (level N file (address N image C)) C e)
       (adjusted_kept N image (address N image C) (level N file (address N image C)))
 
   module _ (leaves : hash N (level N file (address N image C)) C ≡ address N image C → ⊥) where
@@ -38,7 +38,8 @@ module _ (N : ℕ) (positive : 0 < N) (file : Image) (formed : Formed N file)
 
     pub after_left : image_after N file image C
         ≡ wrapped N (level N file (address N image C) - 1) (suc (address N image C))
-    after_left = image_after_is N file image C ∙ rw (keeps_no N (address N image C) (level N file (address N image C)) C leaves)
+    unfolding image_after
+    after_left = rw (keeps_no N (address N image C) (level N file (address N image C)) C leaves)
         (adjusted_behind N image (address N image C) (level N file (address N image C)) left_behind)
 
     pub after_buckets : buckets N (image_after N file image C)

@@ -8,18 +8,18 @@ use Rattle.address.specs.Rules.{Formed, NotAhead, buckets, opening, handled, mes
 use Rattle.address.specs.Rules.Address.{address_exists}
 use Rattle.address.specs.Rules.Scan.{times, weight, total, total_ones, AllGood, sent_good, sent_weight, times_good}
 use Rattle.address.specs.Rules.Scan.{handled_times, handled_good, handled_length, handled_enough, rounds_good}
-use Rattle.address.specs.Rules.Scan.{opening_is, messages_is, visits_is, last_round_is}
+use Rattle.address.specs.Rules.Scan.{messages_is, visits_is, last_round_is}
 
 module _ (N : ℕ) (positive : 0 < N) (file : Image) (formed : Formed N file)
     (image : Image) (image_formed : Formed N image) (behind : NotAhead N file image) where
   pub opening_good : AllGood N file image.level (opening N image)
-  opening_good = rw (opening_is N image)
-      (sent_good N positive file formed image image_formed behind 0 (buckets N image) (omega arith))
+  unfolding opening
+  opening_good = sent_good N positive file formed image image_formed behind 0 (buckets N image) (omega arith)
 
   opening_weight : (x : ℕ) → weight N x (opening N image) ≡ 1
-  opening_weight x = rw (opening_is N image)
-      (sent_weight N positive file formed image image_formed behind x 0 (buckets N image) (omega arith)
-      (omega (arith, address_exists N positive image image_formed x)) (omega arith))
+  unfolding opening
+  opening_weight x = sent_weight N positive file formed image image_formed behind x 0 (buckets N image) (omega arith)
+      (omega (arith, address_exists N positive image image_formed x)) (omega arith)
 
   -- and so the whole weight is the room that there is
   pub opening_total : total N (opening N image) (buckets N file) ≡ buckets N file

@@ -328,12 +328,7 @@ rounds_good N file base (m ∷ queue) g = omega (
   highest_level N file m.to g.0.exists,
 )
 
--- The definitions of the opening and of what a scan handles, visits and lasts.
-pub opening_is : (N : ℕ) (image : Image)
-    → opening N image ≡ map (λ a. message a (level N image a) 0) (numbers 0 (buckets N image))
-unfolding opening
-opening_is N image = refl
-
+-- The definitions of what a scan handles, visits and lasts.
 pub messages_is : (N : ℕ) (file image : Image) → messages N file image ≡ handled N file (buckets N file) (opening N image)
 unfolding messages
 messages_is N file image = refl
