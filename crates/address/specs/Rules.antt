@@ -13,7 +13,8 @@ pub mod Route
 pub mod Scan
 pub mod Sums
 pub mod Table
-use Rattle.std.specs.Prelude.{ℕ, zero, suc, ◌+◌, ◌*◌, ◌-◌, ◌^◌, ◌%◌, ◌≤◌, ◌<◌, max, Bool, true, cond, ◌&&◌, ◌||◌, leb, ltb, eqb, length}
+use Rattle.std.specs.Prelude.{ℕ, zero, suc, ◌+◌, ◌*◌, ◌-◌, ◌^◌, ◌%◌, ◌≤◌, ◌<◌, max, Bool, true, cond, ◌&&◌, ◌||◌, leb}
+use Rattle.std.specs.Prelude.{ltb, eqb, length}
 use mathlib.Core.List.{List, [], ◌∷◌, ◌++◌, map, foldr}
 use Rattle.address.specs.Limits.{no_bucket}
 use Rattle.address.specs.declared.Image.{Image}

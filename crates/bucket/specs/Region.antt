@@ -11,7 +11,8 @@ pub mod Single
 pub mod Sound
 pub mod Told
 pub mod Write
-use Rattle.std.specs.Prelude.{ℕ, zero, suc, ◌+◌, ◌*◌, ◌-◌, ◌^◌, ◌<◌, ◌≡◌, Bool, true, cond, not, ◌&&◌, List, [], ◌∷◌, ◌++◌, map, leb, eqb, length, drop, replicate}
+use Rattle.std.specs.Prelude.{ℕ, zero, suc, ◌+◌, ◌*◌, ◌-◌, ◌^◌, ◌<◌, ◌≡◌, Bool, true, cond, not, ◌&&◌, List, [], ◌∷◌}
+use Rattle.std.specs.Prelude.{◌++◌, map, leb, eqb, length, drop, replicate}
 use Rattle.address.specs.declared.Image.{Image}
 use Rattle.address.specs.Rules.{address, level}
 use Rattle.layout.specs.Bytes.{Bytes, byte_at, le_at, le_bytes, marked, all_below, all_zero, first_from, edit, part}

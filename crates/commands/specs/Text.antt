@@ -6,7 +6,8 @@ pub mod Fields
 pub mod Pieces
 pub mod Reading
 pub mod Spelling
-use Rattle.std.specs.Prelude.{ℕ, ◌+◌, ◌-◌, ◌*◌, ◌^◌, Bool, true, false, cond, not, ◌&&◌, List, [], ◌∷◌, leb, ltb, eqb, length}
+use Rattle.std.specs.Prelude.{ℕ, ◌+◌, ◌-◌, ◌*◌, ◌^◌, Bool, true, false, cond, not, ◌&&◌, List, [], ◌∷◌, leb, ltb, eqb}
+use Rattle.std.specs.Prelude.{length}
 use Rattle.layout.specs.Bytes.{byte_at, first_from}
 use Rattle.lines.specs.Bytes.{line_feed, space, digit0, digit9, letter_a, letter_g, letter_i, letter_s}
 use Rattle.commands.specs.declared.Command.{Command}

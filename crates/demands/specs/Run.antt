@@ -6,7 +6,8 @@ pub mod Held
 pub mod Loading
 pub mod Replied
 pub mod Shut
-use Rattle.std.specs.Prelude.{ℕ, ◌+◌, ◌^◌, ◌≤◌, ◌<◌, ◌≡◌, Bool, true, cond, not, ◌&&◌, ◌⊎◌, ◌↔◌, leb, ltb, eqb, length, take}
+use Rattle.std.specs.Prelude.{ℕ, ◌+◌, ◌^◌, ◌≤◌, ◌<◌, ◌≡◌, Bool, true, cond, not, ◌&&◌, ◌⊎◌, ◌↔◌, leb, ltb, eqb, length}
+use Rattle.std.specs.Prelude.{take}
 use mathlib.Core.List.{List, [], ◌∷◌, ◌++◌, map, Memᴰ}
 use Rattle.address.specs.Limits.{first_buckets}
 use Rattle.address.specs.Load.{threshold_fits}

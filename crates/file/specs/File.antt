@@ -6,7 +6,8 @@ pub mod Create
 pub mod Write
 pub mod Split
 pub mod Keeping
-use Rattle.std.specs.Prelude.{ℕ, suc, ◌+◌, ◌*◌, ◌-◌, Bool, true, false, cond, not, ◌&&◌, List, [], ◌∷◌, ◌++◌, leb, ltb, eqb, length, replicate}
+use Rattle.std.specs.Prelude.{ℕ, suc, ◌+◌, ◌*◌, ◌-◌, Bool, true, false, cond, not, ◌&&◌, List, [], ◌∷◌, ◌++◌, leb, ltb}
+use Rattle.std.specs.Prelude.{eqb, length, replicate}
 use Rattle.address.specs.Limits.{first_buckets, no_bucket, most_buckets, most_slots}
 use Rattle.address.specs.declared.Image.{Image}
 use Rattle.address.specs.Rules.{«at», span, buckets, level, keeps, splitting, newborn, grown}

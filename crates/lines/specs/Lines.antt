@@ -5,7 +5,8 @@ pub mod Edit
 pub mod Examples
 pub mod Laws
 pub mod Written
-use Rattle.std.specs.Prelude.{ℕ, zero, suc, ◌+◌, ◌*◌, ◌/◌, ◌%◌, ◌≤◌, ◌≡◌, cond, List, [], ◌∷◌, ◌++◌, ltb, eqb, length, take}
+use Rattle.std.specs.Prelude.{ℕ, zero, suc, ◌+◌, ◌*◌, ◌/◌, ◌%◌, ◌≤◌, ◌≡◌, cond, List, [], ◌∷◌, ◌++◌, ltb, eqb, length}
+use Rattle.std.specs.Prelude.{take}
 use Rattle.layout.specs.Bytes.{byte_at, le_at, edit}
 use Rattle.lines.specs.Bytes.{line_feed, space, comma, dash, digit0, greater, question, letter_a, letter_g}
 

@@ -27,7 +27,8 @@ number NoRoom = 2
 -- After an overfull insert into bucket s with count x, a split is due or not, in state (i, n) and by threshold t.
 pub decision : Image → ℕ → ℕ → ℕ → ℕ → ℕ → Control
 decision state b M s x t =
-    cond (overfull b x && due first_buckets state b s x t) (cond (leb M (buckets first_buckets state)) NoRoom Done) NotDue
+    cond (overfull b x && due first_buckets state b s x t) (cond (leb M (buckets first_buckets state)) NoRoom Done)
+    NotDue
 
 -- Of a file: bucket s is the key's own, x the count after the insert, (i, n) the state before the split.
 pub decision_on : List ℕ → ℕ → ℕ → Control

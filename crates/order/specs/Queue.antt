@@ -1,7 +1,8 @@
 -- The list of the buckets that a scan sent a message to, filled from its start: first by the client, then by each
 -- bucket in turn.
 use Rattle.std.specs.Prelude.{ℕ, ◌+◌, ◌-◌, ◌≤◌, ◌<◌, ◌≡◌, refl, List, [], ◌∷◌, ◌++◌, length, take, drop, get_or, set}
-use Rattle.std.proofs.Common.{sym, ap, ap₂, ◌∙◌, add-one, arith, length-append, length-take, length-set, take-append-drop, get_or-take, take_all, take_at, drop-drop}
+use Rattle.std.proofs.Common.{sym, ap, ap₂, ◌∙◌, add-one, arith, length-append, length-take, length-set}
+use Rattle.std.proofs.Common.{take-append-drop, get_or-take, take_all, take_at, drop-drop}
 use Rattle.std.proofs.Math.Seq.{drop-append-add}
 use Rattle.address.specs.Limits.{first_buckets}
 use Rattle.address.specs.declared.Image.{Image}
@@ -204,7 +205,8 @@ module _ {state image : Image} {begun : List ℕ} {start : ℕ} {queue : List �
       room = omega (arith, so.room, same);
       long = same ∙ so.long;
       on = omega (arith, so.on);
-      rest = ap (drop end) e ∙ drop_edited tail new queue fits end (omega (arith, born_length first_buckets a l (j - l)))
+      rest = ap (drop end) e ∙ drop_edited tail new queue fits end
+          (omega (arith, born_length first_buckets a l (j - l)))
           ∙ further;
       under_way = rw
           (ap (take end) e ∙ take_edited tail new queue fits end (omega (arith, born_length first_buckets a l (j - l))))

@@ -4,7 +4,8 @@
 ghost use Rattle.std.specs.Prelude.{◌≡◌, true, ◌≤◌, ◌<◌, length};
 ghost use Rattle.address.specs.Rules.{«at»};
 ghost use Rattle.layout.specs.Bytes.{edit};
-ghost use Rattle.file.specs.File.{Checked, Created, buckets_of, bucket_sound_in, region_sound, lowest_unsound, check, view};
+ghost use Rattle.file.specs.File.{Checked, Created, buckets_of, bucket_sound_in, region_sound, lowest_unsound, check};
+ghost use Rattle.file.specs.File.{view};
 ghost use Rattle.file.specs.File.{header_bytes, created, create};
 ghost use Rattle.file.specs.File.Judge.{Known, Figures};
 

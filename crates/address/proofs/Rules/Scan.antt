@@ -49,7 +49,8 @@ module _ (N : ℕ) (positive : 0 < N) (file : Image) (formed : Formed N file)
 
   -- the bound of the recursion cuts nothing: with more room the same is handled
   pub scan_whole : (most : ℕ) → buckets N file ≤ most → handled N file most (opening N image) ≡ messages N file image
-  scan_whole most room = rw (messages_is N file image) (handled_enough N positive file formed image.level most (buckets N file) (opening N image)
+  scan_whole most room = rw (messages_is N file image)
+      (handled_enough N positive file formed image.level most (buckets N file) (opening N image)
       opening_good (omega (arith, opening_total)) (omega (arith, opening_total)))
 
   -- the last round is at most the highest bucket level less i'

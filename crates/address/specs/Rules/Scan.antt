@@ -329,7 +329,8 @@ rounds_good N file base (m ∷ queue) g = omega (
 )
 
 -- The definitions of what a scan handles, visits and lasts.
-pub messages_is : (N : ℕ) (file image : Image) → messages N file image ≡ handled N file (buckets N file) (opening N image)
+pub messages_is : (N : ℕ) (file image : Image)
+    → messages N file image ≡ handled N file (buckets N file) (opening N image)
 unfolding messages
 messages_is N file image = refl
 

@@ -1,5 +1,6 @@
 -- The answer block's bytes, as they are written: three numbers of eight, and then a payload over the last 14.
-use Rattle.std.specs.Prelude.{ℕ, ◌+◌, ◌-◌, ◌*◌, ◌/◌, ◌%◌, ◌≤◌, ◌<◌, ◌≡◌, refl, Bool, cond, List, [], ◌∷◌, ◌++◌, length, get_or, drop, replicate}
+use Rattle.std.specs.Prelude.{ℕ, ◌+◌, ◌-◌, ◌*◌, ◌/◌, ◌%◌, ◌≤◌, ◌<◌, ◌≡◌, refl, Bool, cond, List, [], ◌∷◌, ◌++◌, length}
+use Rattle.std.specs.Prelude.{get_or, drop, replicate}
 use Rattle.std.proofs.Common.{sym, ap, ap₂, ◌∙◌, append-nil, append_assoc, arith, eq-eqb, ne_eqb}
 use Rattle.address.specs.Limits.{no_bucket}
 use Rattle.address.specs.Rules.{forwards}
@@ -21,8 +22,12 @@ pub block_bytes_lem : (r count : ℕ) (way payload : List ℕ)
     → block r way count payload ≡ block_bytes r count (length way) (get_or way 0 no_bucket) (get_or way 1 no_bucket)
     (get_or way 2 no_bucket) payload
 unfolding block entry
-block_bytes_lem r count way payload = rw
-    (le_bytes_two (get_or way 0 no_bucket), le_bytes_two (get_or way 1 no_bucket), le_bytes_two (get_or way 2 no_bucket))
+block_bytes_lem r count way payload = rw (
+  le_bytes_two (get_or way 0 no_bucket),
+  le_bytes_two (get_or way 1 no_bucket),
+  le_bytes_two
+      (get_or way 2 no_bucket),
+)
 
 -- a block is 24 bytes long
 pub length_block : (r count : ℕ) (way payload : List ℕ) → length payload ≡ 14 → length (block r way count payload) ≡ 24
@@ -114,7 +119,8 @@ forwards_block r count way payload long = rw (block_bytes_lem r count way payloa
     ∙ sym (forwards_is way))
   where
     whole : List ℕ
-    whole = block_bytes r count (length way) (get_or way 0 no_bucket) (get_or way 1 no_bucket) (get_or way 2 no_bucket) payload
+    whole = block_bytes r count (length way) (get_or way 0 no_bucket) (get_or way 1 no_bucket) (get_or way 2 no_bucket)
+        payload
 
 -- a block's payload stands at byte 10
 pub payload_back : (r count : ℕ) (way payload : List ℕ) → length payload ≡ 14

@@ -187,7 +187,8 @@ module _ (own : ℕ → Bool) (entry : List ℕ) (S old new count : ℕ) (halves
     unread : (i : ℕ) → old + slot_at k ≤ i → i < old + slot_at S → get_or now i 0 ≡ get_or entry i 0
     unread i low high = so.untouched i (inr (omega arith)) (inl (omega (arith, halves.apart)))
 
-    pub parted_key : (key : ℕ) → key ≡ le_at 8 now (old + (8 + 24 * k) + 2) → key ≡ key_at (part old (slot_at S) entry) k
+    pub parted_key : (key : ℕ) → key ≡ le_at 8 now (old + (8 + 24 * k) + 2)
+        → key ≡ key_at (part old (slot_at S) entry) k
     parted_key key e = e ∙ le_same 8 now entry (old + slot_at k + 2) (old + (slot_at k + 2))
         (λ i h. unread (old + slot_at k + 2 + i) (omega arith) (omega (arith, halves.few))
         ∙ ap (λ (n : ℕ). get_or entry n 0) (place i))
@@ -313,7 +314,8 @@ module _ (own : ℕ → Bool) (entry : List ℕ) (S old new count : ℕ) (halves
     kept_next test = ap (kept test) next ∙ kept_append test (rides_from source 0 k) (ride_at source k)
 
     kept_in : (test : ℕ → Bool) → test (ride_at source k).key ≡ true
-        → slots_bytes (kept test (rides_from source 0 (k + 1))) ≡ slots_bytes (kept test (rides_from source 0 k)) ++ slot
+        → slots_bytes (kept test (rides_from source 0 (k + 1)))
+        ≡ slots_bytes (kept test (rides_from source 0 k)) ++ slot
     kept_in test h = ap slots_bytes (kept_next test)
         ∙ rw h (slots_append (kept test (rides_from source 0 k)) (ride_at source k))
         ∙ ap (λ (l : List ℕ). slots_bytes (kept test (rides_from source 0 k)) ++ l) (sym slot_is)
@@ -495,7 +497,8 @@ module _ (own : ℕ → Bool) (entry : List ℕ) (S old new count : ℕ) (halves
         (edit new (head_bytes j (count - stay)) l)) closed_old ∙ closed_new ∙ overwritten
 
 -- the count read is the first region's
-pub divide_count : (entry : List ℕ) (S old n : ℕ) → n ≡ le_at 2 entry (old + 4) → n ≡ count_of (part old (slot_at S) entry)
+pub divide_count : (entry : List ℕ) (S old n : ℕ) → n ≡ le_at 2 entry (old + 4)
+    → n ≡ count_of (part old (slot_at S) entry)
 divide_count entry S old n e = e ∙ sym (le_part 2 entry old (slot_at S) 4 (omega arith))
 
 pub divide_rides : (own : ℕ → Bool) (entry : List ℕ) (S j old new n : ℕ) → n ≡ count_of (part old (slot_at S) entry)

@@ -13,7 +13,8 @@ use Rattle.layout.specs.Bytes.{le_at, le_bytes, edit, part}
 use Rattle.layout.specs.Bytes.Tests.{and_both}
 use Rattle.layout.specs.Bytes.Edit.{edit_next, edit_seam, part_seam, part_drop}
 use Rattle.layout.specs.Bytes.Numbers.{length_le_bytes, le_bytes_two, le_back, le_seam, le_drop}
-use Rattle.bucket.specs.Region.{Ride, Whole, bucket_mark, slot_mark, slot_at, count_of, level_of, head_formed, slot_used}
+use Rattle.bucket.specs.Region.{Ride, Whole, bucket_mark, slot_mark, slot_at, count_of, level_of, head_formed}
+use Rattle.bucket.specs.Region.{slot_used}
 use Rattle.bucket.specs.Region.{key_at}
 use Rattle.bucket.specs.Region.{ride_at, rides_from, head_bytes, slot_bytes, slots_bytes, lay_out, encode}
 use Rattle.bucket.specs.Region.Rides.{AllWhole, whole_append}
@@ -84,12 +85,14 @@ module _ (S j : ℕ) (rides : List Ride) (whole : AllWhole rides) where
 
   -- one ride more in the first free slot
   pub lay_out_more : (count : ℕ) (ride : Ride) → Whole ride → length rides < S
-      → edit (slot_at (length rides)) (slot_bytes ride) (lay_out S j count rides) ≡ lay_out S j count (rides ++ (ride ∷ []))
+      → edit (slot_at (length rides)) (slot_bytes ride) (lay_out S j count rides)
+      ≡ lay_out S j count (rides ++ (ride ∷ []))
   unfolding lay_out
   lay_out_more count ride w room =
       ap (edit (slot_at (length rides)) (slot_bytes ride))
       (sym (append_assoc (head_bytes j count) (slots_bytes rides) tail))
-      ∙ edit_seam (head_bytes j count ++ slots_bytes rides) (slot_bytes ride) tail (slot_at (length rides)) (front count)
+      ∙ edit_seam (head_bytes j count ++ slots_bytes rides) (slot_bytes ride) tail (slot_at (length rides))
+      (front count)
       ∙ ap₂ (λ (f b : List ℕ). f ++ b) (append_assoc (head_bytes j count) (slots_bytes rides) (slot_bytes ride)) less
       ∙ append_assoc (head_bytes j count) (slots_bytes rides ++ slot_bytes ride)
       (replicate (24 * (S - length (rides ++ (ride ∷ [])))) 0)
@@ -193,7 +196,8 @@ used_back (ride ∷ rides) w region k rest here (suc i) h =
     place = omega arith
 
 module _ (S j count : ℕ) (rides : List Ride) (whole : AllWhole rides) where
-  pub slots_here : drop (slot_at 0) (lay_out S j count rides) ≡ slots_bytes rides ++ replicate (24 * (S - length rides)) 0
+  pub slots_here : drop (slot_at 0) (lay_out S j count rides)
+      ≡ slots_bytes rides ++ replicate (24 * (S - length rides)) 0
   unfolding lay_out
   slots_here = drop_at (head_bytes j count) (slots_bytes rides ++ replicate (24 * (S - length rides)) 0) 8
       (length_head j count)
@@ -202,7 +206,8 @@ module _ (S j count : ℕ) (rides : List Ride) (whole : AllWhole rides) where
   unfolding lay_out
   rest_zero = ap (drop (slot_at (length rides)))
       (sym (append_assoc (head_bytes j count) (slots_bytes rides) (replicate (24 * (S - length rides)) 0)))
-      ∙ drop_at (head_bytes j count ++ slots_bytes rides) (replicate (24 * (S - length rides)) 0) (slot_at (length rides))
+      ∙ drop_at (head_bytes j count ++ slots_bytes rides) (replicate (24 * (S - length rides)) 0)
+      (slot_at (length rides))
       (front S j rides whole count)
 
   pub count_back : count < 65536 → count_of (lay_out S j count rides) ≡ count

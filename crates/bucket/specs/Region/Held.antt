@@ -1,6 +1,7 @@
 -- What a region holds, ride by ride: a slot in use holds its ride, and a search by key finds the one ride of that key,
 -- if there is any.
-use Rattle.std.specs.Prelude.{ℕ, zero, suc, ◌+◌, ◌*◌, ◌-◌, ◌<◌, ◌≡◌, refl, Bool, true, not, ◌⊎◌, ◌↔◌, eqb, length, replicate}
+use Rattle.std.specs.Prelude.{ℕ, zero, suc, ◌+◌, ◌*◌, ◌-◌, ◌<◌, ◌≡◌, refl, Bool, true, not, ◌⊎◌, ◌↔◌, eqb, length}
+use Rattle.std.specs.Prelude.{replicate}
 use Rattle.std.proofs.Common.{sym, ap, subst, ◌∙◌, true≢false, inl, inr, ⊎_elim, add-zero, zero-add, arith, eq-eqb}
 use mathlib.Core.List.Memᴰ
 use mathlib.Core.List.{List, [], ◌∷◌, ◌++◌, Memᴰ}

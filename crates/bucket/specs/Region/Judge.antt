@@ -1,5 +1,6 @@
 -- What each turn of the judging loops adds: over plain values, so that a function's proof only cites.
-use Rattle.std.specs.Prelude.{ℕ, zero, suc, ◌+◌, ◌*◌, ◌-◌, ◌≤◌, ◌<◌, ◌≡◌, Bool, not, ◌&&◌, List, [], ◌∷◌, ◌++◌, leb, get_or, drop}
+use Rattle.std.specs.Prelude.{ℕ, zero, suc, ◌+◌, ◌*◌, ◌-◌, ◌≤◌, ◌<◌, ◌≡◌, Bool, not, ◌&&◌, List, [], ◌∷◌, ◌++◌, leb}
+use Rattle.std.specs.Prelude.{get_or, drop}
 use Rattle.std.proofs.Math.Path.{refl, ap}
 use Rattle.std.proofs.Common.{sym, ap₂, ◌∙◌, ⊎_elim, add-zero, zero-add, add-one, arith, Fits}
 use Rattle.std.proofs.Math.Bool.{true, false, and-true}
@@ -19,7 +20,8 @@ use Rattle.bucket.specs.Region.Rides.{keys_append, distinct_append}
 use Rattle.bucket.specs.Region.Every.{every_append}
 
 pub head_judged : (S j : ℕ) (region : List ℕ) → j < 256 → ((k : ℕ) → Fits w8 (get_or region k 0)) → {mark : Bool}
-    {l z n : ℕ} → mark ≡ marked region 0 bucket_mark → l ≡ le_at 2 region 2 → z ≡ le_at 2 region 6 → n ≡ le_at 2 region 4
+    {l z n : ℕ} → mark ≡ marked region 0 bucket_mark → l ≡ le_at 2 region 2 → z ≡ le_at 2 region 6
+    → n ≡ le_at 2 region 4
     → (mark && eqb (bit_or (bit_xor l j) z) 0 && leb n S) ≡ head_sound S j region
 unfolding head_sound head_formed
 head_judged S j region small fits {mark} {l} {z} em el ez en = rw

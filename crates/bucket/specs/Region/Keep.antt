@@ -19,7 +19,8 @@ use Rattle.bucket.specs.Region.Sound.{Parts, length_rides, sound_count, sound_wh
 use Rattle.bucket.specs.Region.Sound.{bucket_parts}
 
 -- the keys of the slots, one by one
-key_at_lem : (region : List ℕ) (k c i : ℕ) → i < c → get_or (keys_of (rides_from region k c)) i 0 ≡ key_at region (k + i)
+key_at_lem : (region : List ℕ) (k c i : ℕ) → i < c
+    → get_or (keys_of (rides_from region k c)) i 0 ≡ key_at region (k + i)
 unfolding rides_from keys_of ride_at
 key_at_lem region k zero i h = absurd (omega arith)
 key_at_lem region k (suc c) zero h = ap (key_at region) (sym (add-zero k))

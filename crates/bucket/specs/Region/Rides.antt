@@ -1,5 +1,6 @@
 -- Lists of rides and of their keys: one ride more, how often a key stands in them, and the rides that a test keeps.
-use Rattle.std.specs.Prelude.{ℕ, suc, ◌+◌, ◌≤◌, ◌≡◌, refl, Bool, true, false, cond, not, ◌&&◌, List, [], ◌∷◌, ◌++◌, eqb, length}
+use Rattle.std.specs.Prelude.{ℕ, suc, ◌+◌, ◌≤◌, ◌≡◌, refl, Bool, true, false, cond, not, ◌&&◌, List, [], ◌∷◌, ◌++◌, eqb}
+use Rattle.std.specs.Prelude.{length}
 use Rattle.std.proofs.Common.{sym, ap, ap₂, ◌∙◌, ⊎_elim, arith, eq-eqb}
 use Rattle.address.specs.Compare.{same}
 use Rattle.address.specs.Rules.Scan.{times, times_none, times_here, times_there}

@@ -1,7 +1,9 @@
 -- No key stands twice, found in one pass: each slot is chained to the latest one before it whose key has the same
 -- fingerprint, so an equal key before it is met on its chain.
-use Rattle.std.specs.Prelude.{ℕ, zero, suc, ◌+◌, ◌*◌, ◌/◌, ◌%◌, ◌-◌, ◌≤◌, ◌<◌, ◌≡◌, refl, Bool, true, false, cond, not, ◌&&◌, List, ◌⊎◌, eqb, length, get_or, set, replicate}
-use Rattle.std.proofs.Common.{sym, ap, subst, ◌∙◌, true≢false, inl, inr, ⊎_elim, add-one, arith, eq-eqb, ne_eqb, eqb-true, length-set, get_or-set_same, get_or-set_other}
+use Rattle.std.specs.Prelude.{ℕ, zero, suc, ◌+◌, ◌*◌, ◌/◌, ◌%◌, ◌-◌, ◌≤◌, ◌<◌, ◌≡◌, refl, Bool, true, false, cond, not}
+use Rattle.std.specs.Prelude.{◌&&◌, List, ◌⊎◌, eqb, length, get_or, set, replicate}
+use Rattle.std.proofs.Common.{sym, ap, subst, ◌∙◌, true≢false, inl, inr, ⊎_elim, add-one, arith, eq-eqb, ne_eqb}
+use Rattle.std.proofs.Common.{eqb-true, length-set, get_or-set_same, get_or-set_other}
 use Rattle.std.proofs.lemmas.Bool.{false≢true}
 use Rattle.std.proofs.lemmas.List.{length-replicate, get_or-replicate}
 use Rattle.address.specs.Limits.{most_slots}
@@ -169,12 +171,14 @@ sought_fresh region key count found so none = sym
 -- ---- one key more: fresh or met
 
 -- a key that is not found among the first slots differs from all, and one that is found does not
-pub found_none : (region : List ℕ) (key k place : ℕ) → place ≡ first_from (λ i. eqb (key_at region i) key) k 0 → k ≤ place
+pub found_none : (region : List ℕ) (key k place : ℕ) → place ≡ first_from (λ i. eqb (key_at region i) key) k 0
+    → k ≤ place
     → true ≡ every (λ other. not (eqb other key)) (keys_of (rides_from region 0 k))
 found_none region key k place e h = sym
     (fresh_from region key 0 k (λ i low high. first_before (λ i. eqb (key_at region i) key) k 0 i low (omega arith)))
 
-pub found_met : (region : List ℕ) (key k place : ℕ) → place ≡ first_from (λ i. eqb (key_at region i) key) k 0 → place < k
+pub found_met : (region : List ℕ) (key k place : ℕ) → place ≡ first_from (λ i. eqb (key_at region i) key) k 0
+    → place < k
     → false ≡ every (λ other. not (eqb other key)) (keys_of (rides_from region 0 k))
 found_met region key k place e h = sym
     (stands region key 0 k (first_from (λ i. eqb (key_at region i) key) k 0) (omega arith) (omega arith)
@@ -366,7 +370,8 @@ module _ (own : ℕ → Bool) (region : List ℕ) (count key : ℕ) where
   slots_double sound place bad double = record {
     tested = bad
         ∙ sym
-        (and_none (all_below (slot_used region) count && every own (keys_of (rides_from region 0 count))) _ (sym double));
+        (and_none (all_below (slot_used region) count && every own (keys_of (rides_from region 0 count))) _
+        (sym double));
     found = λ e. absurd (false≢true (sym bad ∙ e));
   }
 

@@ -3,7 +3,8 @@
 use Prim.Native.Nat.{ℕ, zero, suc, ◌+◌, ◌*◌, ◌-◌, ◌≤◌, ◌<◌}
 use Rattle.std.specs.Prelude.{◌≡◌, refl, Bool, ◌&&◌, ◌↔◌, leb, eqb, get_or, take, replicate}
 use Rattle.std.proofs.Math.Path.{sym, ap, ap₂}
-use Rattle.std.proofs.Common.{◌∙◌, add-zero, zero-add, add_assoc, eqb-true, eq-eqb, ne_eqb, leb-true, le-leb, take-append-drop}
+use Rattle.std.proofs.Common.{◌∙◌, add-zero, zero-add, add_assoc, eqb-true, eq-eqb, ne_eqb, leb-true, le-leb}
+use Rattle.std.proofs.Common.{take-append-drop}
 use Rattle.std.proofs.Math.Bool.{true}
 use mathlib.Core.List.{List, [], ◌∷◌, ◌++◌, append_assoc}
 use Rattle.std.proofs.Math.Logic.{by_cases}
@@ -18,7 +19,8 @@ use Rattle.layout.specs.Bytes.{Bytes, marked, all_below, all_zero, part}
 use Rattle.layout.specs.Bytes.Tests.{and_left, and_right, all_at, all_of, zero_replicate, replicate_zero}
 use Rattle.layout.specs.Bytes.Edit.{part_split, part_two, part_front, drop_split, length_part, part_bytes}
 use Rattle.layout.specs.Bytes.Numbers.{le_again, le_lt}
-use Rattle.bucket.specs.Region.{Ride, Whole, bucket_mark, slot_mark, slot_at, count_of, level_of, head_formed, slot_used}
+use Rattle.bucket.specs.Region.{Ride, Whole, bucket_mark, slot_mark, slot_at, count_of, level_of, head_formed}
+use Rattle.bucket.specs.Region.{slot_used}
 use Rattle.bucket.specs.Region.{key_at, ride_at, rides_from, rides_of, keys_of, every, distinct, head_sound, sound_with}
 use Rattle.bucket.specs.Region.{bucket_sound, head_bytes, slot_bytes, slots_bytes, lay_out, encode}
 use Rattle.bucket.specs.Region.Rides.{AllWhole}
@@ -64,7 +66,8 @@ module _ (S j : ℕ) (rides : List Ride) (whole : AllWhole rides) (room : length
 
       rest : all_zero (drop (slot_at (count_of (encode S j rides))) (encode S j rides)) ≡ true
       rest = ap all_zero
-          (ap (λ (n : ℕ). drop (slot_at n) (encode S j rides)) count_encode ∙ (rest_zero S j (length rides) rides whole))
+          (ap (λ (n : ℕ). drop (slot_at n) (encode S j rides)) count_encode
+          ∙ (rest_zero S j (length rides) rides whole))
           ∙ replicate_zero (24 * (S - length rides))
 
 -- ---- a sound region, written again

@@ -1,6 +1,7 @@
 -- The judging functions by what their calls and tests told: each group follows its function in the source, with a law
 -- for each turn of its loop and each way out.
-use Rattle.std.specs.Prelude.{ℕ, ◌+◌, ◌*◌, ◌-◌, ◌≤◌, ◌<◌, ◌≡◌, refl, Bool, true, false, cond, not, ◌&&◌, List, eqb, length, get_or, set, take, drop, replicate}
+use Rattle.std.specs.Prelude.{ℕ, ◌+◌, ◌*◌, ◌-◌, ◌≤◌, ◌<◌, ◌≡◌, refl, Bool, true, false, cond, not, ◌&&◌, List, eqb}
+use Rattle.std.specs.Prelude.{length, get_or, set, take, drop, replicate}
 use Rattle.std.proofs.Common.{sym, ap, ap₂, subst, ◌∙◌, arith, eq-eqb, ne_eqb, length-drop, Fits}
 use Rattle.std.proofs.lemmas.Bool.{false≢true, not-true, not-false}
 use borrow.Author.Rules.{part_to_end}
@@ -37,7 +38,8 @@ wide_byte bytes k known = Fits-8_64 (known k)
 
 pub record Finding (region : List ℕ) (count key k : ℕ) : Type 0 where
   pub within : k ≤ count
-  pub is : first_from (λ i. eqb (key_at region i) key) (count - k) k ≡ first_from (λ i. eqb (key_at region i) key) count 0
+  pub is : first_from (λ i. eqb (key_at region i) key) (count - k) k
+      ≡ first_from (λ i. eqb (key_at region i) key) count 0
 
 pub find_start : (region : List ℕ) (count key : ℕ) → Finding region count key 0
 find_start region count key = record {
@@ -177,7 +179,8 @@ seen_none region from slots h = record {
     none = omega arith
 
 module _ (region : List ℕ) (from slots k seen : ℕ) (so : Seen region from slots k seen) where
-  pub seen_more : k < slots → {one two three : ℕ} → one ≡ le_at 8 region (slot_at k) → two ≡ le_at 8 region (slot_at k + 8)
+  pub seen_more : k < slots → {one two three : ℕ} → one ≡ le_at 8 region (slot_at k)
+      → two ≡ le_at 8 region (slot_at k + 8)
       → three ≡ le_at 8 region (slot_at k + 16)
       → Seen region from slots (k + 1) (bit_or (bit_or (bit_or seen one) two) three)
   seen_more more {one} {two} {three} first second third = record {

@@ -89,7 +89,8 @@ module _ (table : List ℕ) (client : ℕ) (image : Image) (fits : 8 * client + 
 
   -- every other record stays as it was, byte by byte
   module _ (other : ℕ) (apart : other ≡ client → ⊥) where
-    byte_kept : (k : ℕ) → k < 8 → get_or (with_image table client image) (8 * other + k) 0 ≡ get_or table (8 * other + k) 0
+    byte_kept : (k : ℕ) → k < 8
+        → get_or (with_image table client image) (8 * other + k) 0 ≡ get_or table (8 * other + k) 0
     unfolding with_image
     byte_kept k h = by_cases (dec_lt other client)
         (λ l. edit_before (8 * client) (image_bytes image) table room (8 * other + k) (omega arith))
@@ -122,7 +123,8 @@ module _ (table : List ℕ) (client : ℕ) (image : Image) (fits : 8 * client + 
     pub written_sound : record_sound (with_image table client image) client ≡ true
     unfolding record_sound record_formed image_formed
     written_sound = rw (
-      ap (λ (i : ℕ). get_or (with_image table client image) i 0) (sym (add-zero (8 * client))) ∙ byte_here 0 (omega arith),
+      ap (λ (i : ℕ). get_or (with_image table client image) i 0) (sym (add-zero (8 * client)))
+          ∙ byte_here 0 (omega arith),
       byte_here 1 (omega arith),
       byte_here 3 (omega arith),
       byte_here 6 (omega arith),
@@ -150,7 +152,8 @@ module _ (table : List ℕ) (client : ℕ) (image : Image) (fits : 8 * client + 
 -- a sound record has its own image written, so that writing it again changes nothing
 module _ (table : List ℕ) (client : ℕ) (sound : record_sound table client ≡ true) (bytes : Bytes table) where
   formed_bytes : (byte_at table (8 * client) ≡ 76) × (byte_at table (8 * client + 1) ≡ 67)
-      × (byte_at table (8 * client + 3) ≡ 0) × (byte_at table (8 * client + 6) ≡ 0) × (byte_at table (8 * client + 7) ≡ 0)
+      × (byte_at table (8 * client + 3) ≡ 0) × (byte_at table (8 * client + 6) ≡ 0)
+      × (byte_at table (8 * client + 7) ≡ 0)
   unfolding record_sound record_formed
   formed_bytes =
       let h4 = and_left _ _ sound in
@@ -196,7 +199,8 @@ module _ (table : List ℕ) (client : ℕ) (sound : record_sound table client �
   unfolding with_image
   written_again fits = edit_same (8 * client) (image_bytes (image_of table client)) table
       (room table client (image_of table client) fits)
-      (ap (λ (n : ℕ). part (8 * client) n table) (long table client (image_of table client) fits) ∙ image_bytes_lem fits)
+      (ap (λ (n : ℕ). part (8 * client) n table) (long table client (image_of table client) fits)
+      ∙ image_bytes_lem fits)
 
 -- a sound table has a sound length and sound records; where the length is sound, 2 and 3 do not refuse a client of the
 -- table

@@ -1,5 +1,6 @@
 -- The table's refusals by their cases, and what each function of the crate shows, over plain values.
-use Rattle.std.specs.Prelude.{ℕ, ◌+◌, ◌*◌, ◌/◌, ◌%◌, ◌≤◌, ◌<◌, ◌≡◌, refl, Bool, true, false, cond, List, [], ◌∷◌, ◌++◌, leb, ltb, length, get_or}
+use Rattle.std.specs.Prelude.{ℕ, ◌+◌, ◌*◌, ◌/◌, ◌%◌, ◌≤◌, ◌<◌, ◌≡◌, refl, Bool, true, false, cond, List, [], ◌∷◌, ◌++◌}
+use Rattle.std.specs.Prelude.{leb, ltb, length, get_or}
 use Rattle.std.proofs.Common.{sym, subst, ◌∙◌, arith, lt-ltb, le-ltb, le-leb, ltb-true, leb-true, eq-eqb, ne_eqb, Fits}
 use Rattle.std.proofs.Math.Path.{ap, ap₂}
 use Rattle.std.proofs.Math.Bool.{not, ◌&&◌, and_assoc}
@@ -171,7 +172,8 @@ join_reply table client = refl
 
 pub join_ways : (P : Joined → Type 0) (table : List ℕ) (client : ℕ)
     → ((r : ℕ) → r ≡ reply (table_refusals table client) 0 → (r ≡ 0 → ⊥) → P (record { answer = r; table = table }))
-    → (reply (table_refusals table client) 0 ≡ 0 → P (record { answer = 0; table = with_image table client («at» 0 0) }))
+    → (reply (table_refusals table client) 0 ≡ 0
+    → P (record { answer = 0; table = with_image table client («at» 0 0) }))
     → P (join table client)
 join_ways P table client refused done = by_cases (ℕ_discrete r 0)
     (λ e. subst P (join_done table _ client r refl e refl) (done e))

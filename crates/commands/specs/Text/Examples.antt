@@ -23,7 +23,8 @@ pub record Examples : Type 0 where
       ≡ replicate 3 Unknown
 
 pub examples : Examples
-unfolding bytes_of read all_digits no_spare_zero spelled value is_number longer pieces named limit_after of_numbers of_fields
+unfolding bytes_of read all_digits no_spare_zero spelled value is_number longer pieces named limit_after of_numbers
+    of_fields
     command_of
 examples = record {
   split = refl;

@@ -85,7 +85,8 @@ module _ (b : ℕ) where
 
     parted : (count from : ℕ) → from + count ≡ length text → Parted from (place_of b text from)
     parted zero from e = subst (Parted from)
-        (sym (first_none (λ k. eqb (get_or text k 0) b) (length text) from (omega arith))) (parted_end from (omega arith))
+        (sym (first_none (λ k. eqb (get_or text k 0) b) (length text) from (omega arith)))
+        (parted_end from (omega arith))
     parted (suc count) from e = by_cases (ℕ_discrete (get_or text from 0) b)
         (λ is. subst (Parted from) (sym (first_here test (length text) from inside (eq-eqb (get_or text from 0) b is)))
         (parted_here from inside is))

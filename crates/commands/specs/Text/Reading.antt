@@ -58,7 +58,8 @@ module _ (most v : ℕ) (bytes : List ℕ) (i : ℕ) {whole : Number}
     pub read_high : digit9 < get_or bytes i 0 → Malformed ≡ whole
     read_high h = sym (from_high (most + 1) v bytes i inside h) ∙ so
 
-    module _ {w : ℕ} (is : w ≡ get_or bytes i 0) (low : digit0 ≤ get_or bytes i 0) (high : get_or bytes i 0 ≤ digit9) where
+    module _ {w : ℕ} (is : w ≡ get_or bytes i 0) (low : digit0 ≤ get_or bytes i 0)
+        (high : get_or bytes i 0 ≤ digit9) where
       pub read_digit : number_from (most + 1) (v * 10 + (w - digit0)) (drop (i + 1) bytes) ≡ whole
       read_digit = sym (from_digit (most + 1) v bytes i inside w is (omega arith) (omega arith)) ∙ so
 

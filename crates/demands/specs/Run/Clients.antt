@@ -367,7 +367,8 @@ module _ (m : Memory) (ready : Ready m) where
     unfolding sent
     step_counts (Join other) old = counted_none (Join other) old
     step_counts (Insert other key payload answer) old = sent_ways
-        (λ s. wrong_first client m s + believed client m ≤ believed client (after m (Insert other key payload answer))) _
+        (λ s. wrong_first client m s + believed client m ≤ believed client (after m (Insert other key payload answer)))
+        _
         other key
         (λ fits none. counted_key (Insert other key payload answer) old other key none
         (inserting other key payload answer fits none)) (counted_none _ old)

@@ -407,7 +407,8 @@ whole_run m bytes sound (call ∷ calls) typed =
 
 -- the payload that a key's own bucket holds with it
 abbrev pub payload_held : List ℕ → ℕ → List ℕ
-payload_held file key = (ride_at (region_of file (own_of file key)) (slot_of (region_of file (own_of file key)) key)).payload
+payload_held file key =
+    (ride_at (region_of file (own_of file key)) (slot_of (region_of file (own_of file key)) key)).payload
 
 module _ (file table : List ℕ) (bytes : Bytes file) (sound : file_sound file ≡ true) (client key : ℕ) where
   bucket : Shown file (own_of file key)

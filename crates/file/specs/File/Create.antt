@@ -26,7 +26,8 @@ use Rattle.bucket.specs.Region.{slot_at, rides_of, bucket_sound, encode}
 use Rattle.bucket.specs.Region.Held.{encode_bytes}
 use Rattle.bucket.specs.Region.Sound.{empty_sound, rides_encode}
 use Rattle.bucket.specs.Region.Encode.{length_encode}
-use Rattle.file.specs.File.{file_mark, most_of, state_of, file_length, figures_fit, state_fits, buckets_of, header_sound}
+use Rattle.file.specs.File.{file_mark, most_of, state_of, file_length, figures_fit, state_fits, buckets_of}
+use Rattle.file.specs.File.{header_sound}
 use Rattle.file.specs.File.{start_of, region_of, bucket_sound_in, region_sound, file_sound, header_bytes, created}
 use Rattle.file.specs.File.{Created, create, first_zero, fixed_bytes}
 use Rattle.file.specs.File.Region.{region_is, region_within, region_bucket, region_past}
@@ -206,7 +207,8 @@ module _ (b S M : ℕ) (fits : Figures (file_length S M) b S M) where
   fixed : fixed_bytes (head ++ behind) ≡ true
   unfolding head
   fixed = ap all_zero
-      (part_seam first_zero (76 ∷ 70 ∷ 0 ∷ b ∷ 0 ∷ 0 ∷ M % 256 ∷ M / 256 % 256 ∷ S ∷ []) (zeros (16 - first_zero)) behind
+      (part_seam first_zero (76 ∷ 70 ∷ 0 ∷ b ∷ 0 ∷ 0 ∷ M % 256 ∷ M / 256 % 256 ∷ S ∷ []) (zeros (16 - first_zero))
+      behind
       refl)
       ∙ replicate_zero (16 - first_zero)
 
@@ -240,7 +242,8 @@ module _ (b S M : ℕ) (fits : Figures (file_length S M) b S M) where
       past = omega (arith, mul-le-mul_right (8 + 24 * S) some)
 
       long : length (part (start_of S a) (slot_at S) (head ++ behind)) ≡ slot_at S
-      long = length_part (start_of S a) (slot_at S) (head ++ behind) (omega (arith, laid_long, region_within S M a there))
+      long = length_part (start_of S a) (slot_at S) (head ++ behind)
+          (omega (arith, laid_long, region_within S M a there))
 
       each : (k : ℕ) → k < length (part (start_of S a) (slot_at S) (head ++ behind))
           → get_or (part (start_of S a) (slot_at S) (head ++ behind)) k 0 ≡ 0

@@ -1,5 +1,6 @@
 -- A header judged: what a sound one shows, and the ways of the functions that judge it.
-use Rattle.std.specs.Prelude.{ℕ, suc, ◌+◌, ◌-◌, ◌≤◌, ◌<◌, ◌≡◌, refl, Bool, true, false, cond, not, ◌&&◌, List, leb, ltb, eqb, length, get_or}
+use Rattle.std.specs.Prelude.{ℕ, suc, ◌+◌, ◌-◌, ◌≤◌, ◌<◌, ◌≡◌, refl, Bool, true, false, cond, not, ◌&&◌, List, leb, ltb}
+use Rattle.std.specs.Prelude.{eqb, length, get_or}
 use Rattle.std.proofs.Math.Path.{sym}
 use Rattle.std.proofs.Common.{ap, ap₂, ◌∙◌, arith, Fits}
 use Rattle.std.proofs.Math.Logic.{by_cases}
@@ -116,7 +117,8 @@ module _ (state : Image) (M : ℕ) where
   )
 
 -- a state within the limits is small
-pub state_small : (state : Image) (M : ℕ) → M ≤ most_buckets → Formed first_buckets state → buckets first_buckets state ≤ M
+pub state_small : (state : Image) (M : ℕ) → M ≤ most_buckets → Formed first_buckets state
+    → buckets first_buckets state ≤ M
     → (state.level ≤ most_level) × (state.pointer ≤ most_buckets)
 state_small state M few formed within = (
   by_cases (dec_lt most_level state.level)
@@ -254,7 +256,8 @@ pub record Known (file : List ℕ) (header : Header) : Type 0 where
   pub ranges : Ranges file
   pub room : ImageRoom first_buckets header.state
 
-pub buckets_of_lem : (file : List ℕ) → buckets_of file ≡ span first_buckets (state_of file).level + (state_of file).pointer
+pub buckets_of_lem : (file : List ℕ)
+    → buckets_of file ≡ span first_buckets (state_of file).level + (state_of file).pointer
 unfolding buckets_of
 buckets_of_lem file = buckets_is first_buckets (state_of file)
 
@@ -298,7 +301,8 @@ known file header e h =
 -- the same from the figures that are read of a sound header
 pub known_read : (file : List ℕ) {header : Header} → header_sound file ≡ true → FiguresOf file header
     → Known file header
-known_read file {header} sound read = known file header (figures_of_lem file header read ∙ sym (header_sound_lem file sound))
+known_read file {header} sound read = known file header
+    (figures_of_lem file header read ∙ sym (header_sound_lem file sound))
     read.sound
 
 -- the same from the test that the flag has passed, or not

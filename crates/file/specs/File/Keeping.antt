@@ -17,7 +17,8 @@ use Rattle.address.specs.Rules.Grow.{grown_formed, grown_buckets}
 use Rattle.address.proofs.Rules.Grow.{newborn_next, level_old, level_newborn, level_other}
 use Rattle.layout.specs.Bytes.{Bytes, all_below, all_zero}
 use Rattle.layout.specs.Bytes.Tests.{and_left, and_right, and_both, all_at, all_of}
-use Rattle.bucket.specs.Region.{Ride, Whole, slot_at, count_of, rides_of, keys_of, distinct, slot_of, bucket_sound, encode}
+use Rattle.bucket.specs.Region.{Ride, Whole, slot_at, count_of, rides_of, keys_of, distinct, slot_of, bucket_sound}
+use Rattle.bucket.specs.Region.{encode}
 use Rattle.bucket.specs.Region.{kept}
 use Rattle.bucket.specs.Region.Rides.{AllWhole, whole_append, kept_whole, kept_lengths}
 use Rattle.bucket.specs.Region.Sound.{count_encode, rides_encode}
@@ -44,7 +45,8 @@ unfolding file_sound
 sound_region file h a l = all_at (region_sound file) (most_of file) a (and_right (header_sound file) _ h) l
 
 -- in a sound file every bucket is sound
-pub sound_bucket : (file : List ℕ) → file_sound file ≡ true → (a : ℕ) → a < buckets_of file → bucket_sound_in file a ≡ true
+pub sound_bucket : (file : List ℕ) → file_sound file ≡ true → (a : ℕ) → a < buckets_of file
+    → bucket_sound_in file a ≡ true
 sound_bucket file h a l = sym (region_bucket file a l)
     ∙ sound_region file h a (omega (arith, (header_ranges file (sound_header file h)).few))
 
@@ -227,7 +229,8 @@ module _ (file : List ℕ) (bytes : Bytes file) (sound : file_sound file ≡ tru
   few_slots = omega (arith, ranges.figured.few_slots)
 
   old_there : splitting (state_of file) < buckets_of file
-  old_there = omega (arith, buckets_of_lem file, ranges.formed, span_pos first_buckets (omega arith) (state_of file).level)
+  old_there = omega
+      (arith, buckets_of_lem file, ranges.formed, span_pos first_buckets (omega arith) (state_of file).level)
 
   new_there : newborn first_buckets (state_of file) ≡ buckets_of file
   unfolding buckets_of
@@ -329,7 +332,8 @@ module _ (file : List ℕ) (bytes : Bytes file) (sound : file_sound file ≡ tru
   two_new = with_here one (header_ranges one one_sound) (newborn first_buckets (state_of file)) new_in
       (half (newborn first_buckets (state_of file))) new_long
 
-  two_rest : (b : ℕ) → b < most_of file → (b ≡ newborn first_buckets (state_of file) → ⊥) → region_of two b ≡ region_of one b
+  two_rest : (b : ℕ) → b < most_of file → (b ≡ newborn first_buckets (state_of file) → ⊥)
+      → region_of two b ≡ region_of one b
   unfolding two
   two_rest b l other = with_other one (header_ranges one one_sound) (newborn first_buckets (state_of file)) new_in
       (half (newborn first_buckets (state_of file))) new_long b (omega (arith, one_most)) other
@@ -384,7 +388,8 @@ module _ (file : List ℕ) (bytes : Bytes file) (sound : file_sound file ≡ tru
   three_header : header_sound three ≡ true
   unfolding three
   three_header = state_header two (grown first_buckets (state_of file)) headed low two_sound
-      (state_back (grown first_buckets (state_of file)) (most_of two) next_formed (omega (arith, next_buckets, two_most)))
+      (state_back (grown first_buckets (state_of file)) (most_of two) next_formed
+      (omega (arith, next_buckets, two_most)))
 
   three_region : (b : ℕ) → b < most_of file → region_of three b ≡ region_of two b
   unfolding three
@@ -419,7 +424,8 @@ module _ (file : List ℕ) (bytes : Bytes file) (sound : file_sound file ≡ tru
       same = three_region b within ∙ two_other b within other apart
 
       bucket : b < buckets_of file → region_sound three b ≡ true
-      bucket l = judged_bucket three b (slots_of file) (grown first_buckets (state_of file)) (region_of file b) three_state
+      bucket l = judged_bucket three b (slots_of file) (grown first_buckets (state_of file)) (region_of file b)
+          three_state
           three_slots same (omega (arith, next_buckets, l))
           (bucket_alike first_buckets (omega arith) (state_of file) (grown first_buckets (state_of file)) ranges.formed
           next_formed (slots_of file) b (in_state b l) (omega (arith, next_buckets, l))

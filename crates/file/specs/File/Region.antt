@@ -1,6 +1,7 @@
 -- Where the regions lie: within the file, one behind the other; how each is judged, and what check and view say of
 -- them.
-use Rattle.std.specs.Prelude.{ℕ, ◌+◌, ◌*◌, ◌-◌, ◌≤◌, ◌<◌, ◌≡◌, refl, Bool, true, false, cond, ◌&&◌, List, [], ◌∷◌, ltb, eqb, length, drop}
+use Rattle.std.specs.Prelude.{ℕ, ◌+◌, ◌*◌, ◌-◌, ◌≤◌, ◌<◌, ◌≡◌, refl, Bool, true, false, cond, ◌&&◌, List, [], ◌∷◌, ltb}
+use Rattle.std.specs.Prelude.{eqb, length, drop}
 use Rattle.std.proofs.Math.Path.{sym, ap, ap₂}
 use Rattle.std.proofs.Common.{◌∙◌, mul-le-mul, mul-le-mul_right}
 use Rattle.std.proofs.Math.Bool.{not}
@@ -38,7 +39,8 @@ pub region_apart : (S a b : ℕ) → a < b → start_of S a + slot_at S ≤ star
 region_apart S a b h = omega (arith, mul-le-mul_right (8 + 24 * S) h)
 
 -- a region, cut out of the file
-pub region_is : (file : List ℕ) (a : ℕ) → region_of file a ≡ part (start_of (slots_of file) a) (slot_at (slots_of file)) file
+pub region_is : (file : List ℕ) (a : ℕ)
+    → region_of file a ≡ part (start_of (slots_of file) a) (slot_at (slots_of file)) file
 unfolding region_of
 region_is file a = refl
 
@@ -65,7 +67,8 @@ pub region_fits : (file : List ℕ) → Ranges file → (a : ℕ) → a < most_o
 region_fits file seen a h = omega (arith, region_within (slots_of file) (most_of file) a h, seen.figured.whole)
 
 -- a region by its slots' number and its place: cut out, within the file, and as long as its slots
-module _ (file : List ℕ) (ranges : Ranges file) {S : ℕ} (eS : S ≡ slots_of file) (a at : ℕ) (ea : at ≡ start_of S a) where
+module _ (file : List ℕ) (ranges : Ranges file) {S : ℕ} (eS : S ≡ slots_of file) (a at : ℕ)
+    (ea : at ≡ start_of S a) where
   slots_cut : take (at + (8 + 24 * S) - at) (drop at file) ≡ region_of file a
   slots_cut = region_cut file S a at (at + (8 + 24 * S)) eS ea refl
 
@@ -208,7 +211,8 @@ module _ (file : List ℕ) where
           ∙ so
 
       pub lower_more : not sound ≡ false → Lower (k + 1)
-      lower_more good = sym (first_later (λ a. not (region_sound file a)) (most_of file) k below (ap not (sym es) ∙ good))
+      lower_more good = sym
+          (first_later (λ a. not (region_sound file a)) (most_of file) k below (ap not (sym es) ∙ good))
           ∙ so
 
 -- ---- check, by its cases
@@ -260,7 +264,8 @@ pub view_high : (file : List ℕ) (a : ℕ) → header_sound file ≡ true → b
 unfolding view
 view_high file a h l = rw (h, le-ltb a (buckets_of file) l)
 
-pub view_unsound : (file : List ℕ) (a : ℕ) → header_sound file ≡ true → a < buckets_of file → bucket_sound_in file a ≡ false
+pub view_unsound : (file : List ℕ) (a : ℕ) → header_sound file ≡ true → a < buckets_of file
+    → bucket_sound_in file a ≡ false
     → [] ≡ view file a
 unfolding view
 view_unsound file a h l u = rw (h, lt-ltb a (buckets_of file) l, u)

@@ -197,7 +197,8 @@ module _ (file : List ℕ) (bytes : Bytes file) (header : Header) (seen : Known 
 
       written : halved (keeps first_buckets old (header.state.level + 1)) header.slots (header.state.level + 1)
           from to file
-          ≡ with_region (with_region file (splitting (state_of file)) staying_bytes) (newborn first_buckets (state_of file))
+          ≡ with_region (with_region file (splitting (state_of file)) staying_bytes)
+          (newborn first_buckets (state_of file))
           (encode (slots_of file) (suc (state_of file).level)
           (kept (λ key. not (keeps first_buckets (splitting (state_of file)) (suc (state_of file).level) key))
           (rides_of (region_of file (splitting (state_of file))))))
@@ -306,7 +307,8 @@ module _ (file : List ℕ) where
       header : (b : Bool) → header_sound file ≡ b → P (split file)
       header false h = subst P (split_header h) (refused 5 no_bucket (omega arith))
       header true h = ⊎_elim (λ l. subst P (split_whole h l) (refused 10 no_bucket (omega arith)))
-          (λ l. old l (bucket_sound_in file (splitting (state_of file))) refl) (below_or (most_of file) (buckets_of file))
+          (λ l. old l (bucket_sound_in file (splitting (state_of file))) refl)
+          (below_or (most_of file) (buckets_of file))
         where
           below_or : (x y : ℕ) → (x ≤ y) ⊎ (y < x)
           below_or x y = ⊎_elim inr (λ l. inl l) (below y x)

@@ -291,7 +291,8 @@ pub record Shown (file : List ℕ) (a : ℕ) : Type 0 where
       (λ key. eqb (address first_buckets (state_of file) key) a) (region_of file a)
   pub whole : AllWhole (rides_of (region_of file a))
   pub count : length (rides_of (region_of file a)) ≡ count_of (region_of file a)
-  pub again : region_of file a ≡ encode (slots_of file) (level first_buckets (state_of file) a) (rides_of (region_of file a))
+  pub again : region_of file a ≡ encode (slots_of file) (level first_buckets (state_of file) a)
+      (rides_of (region_of file a))
 
 pub shown : (file : List ℕ) → Ranges file → Bytes file → (a : ℕ) → a < buckets_of file → bucket_sound_in file a ≡ true
     → Shown file a
@@ -332,7 +333,8 @@ ride_placed file header seen bytes a exists sound ride whole count counted room 
     (with_region file a) (ea
     ∙ ap₂ (λ (n : ℕ) (r : List ℕ). edit 4 (le_bytes 2 (n + 1)) (edit (slot_at n) (slot_bytes ride) r)) number
     (er ∙ bucket.again)
-    ∙ encode_more (slots_of file) (level first_buckets (state_of file) a) (rides_of (region_of file a)) bucket.whole ride
+    ∙ encode_more (slots_of file) (level first_buckets (state_of file) a) (rides_of (region_of file a)) bucket.whole
+    ride
     whole (omega (arith, number, seen.slots)))
   where
     bucket : Shown file a

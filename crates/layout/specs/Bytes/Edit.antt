@@ -1,13 +1,16 @@
 -- What a write leaves: the bytes written, and every other byte as it was. Two lists are equal by their elements, so
 -- each law is read off these.
-use Rattle.std.specs.Prelude.{ℕ, zero, suc, ◌+◌, ◌-◌, ◌≤◌, ◌<◌, ◌≡◌, refl, List, [], ◌∷◌, ◌++◌, take, drop, replicate, set}
-use Rattle.std.proofs.Common.{sym, ap₂, ◌∙◌, append-nil, add_assoc, add-zero, zero-add, add-one, arith, length-set, take-append-drop, ext_get_or, get_or-append-add, take-add, drop-drop, drop_at, drop-cons}
+use Rattle.std.specs.Prelude.{ℕ, zero, suc, ◌+◌, ◌-◌, ◌≤◌, ◌<◌, ◌≡◌, refl, List, [], ◌∷◌, ◌++◌, take, drop, replicate}
+use Rattle.std.specs.Prelude.{set}
+use Rattle.std.proofs.Common.{sym, ap₂, ◌∙◌, append-nil, add_assoc, add-zero, zero-add, add-one, arith, length-set}
+use Rattle.std.proofs.Common.{take-append-drop, ext_get_or, get_or-append-add, take-add, drop-drop, drop_at, drop-cons}
 use Rattle.std.proofs.Math.Path.{ap}
 use Rattle.std.proofs.Math.Logic.{by_cases}
 use Rattle.std.proofs.Math.Decide.{dec_lt}
 use Rattle.std.proofs.lemmas.List.Edits.{fill_more}
 use Rattle.std.proofs.Math.ListN.{length, get_or, length-append, length-drop, get_or-append, get_or-eq_default}
-use Rattle.std.proofs.Math.Seq.{get_or-take, get_or-drop, length-take-le, paste, paste-suc, take-length, drop-length, take-append_seam, drop-append_seam, drop-append-add, append_snoc}
+use Rattle.std.proofs.Math.Seq.{get_or-take, get_or-drop, length-take-le, paste, paste-suc, take-length, drop-length}
+use Rattle.std.proofs.Math.Seq.{take-append_seam, drop-append_seam, drop-append-add, append_snoc}
 use Rattle.std.proofs.lemmas.List.{set_split}
 use Rattle.layout.specs.Bytes.{Bytes, edit, part}
 

@@ -1,6 +1,9 @@
 -- Numbers of several bytes: read after written, written after read, and read past a write. Each goes byte by byte.
-use Rattle.std.specs.Prelude.{ℕ, zero, suc, ◌+◌, ◌*◌, ◌/◌, ◌%◌, ◌^◌, ◌-◌, ◌≤◌, ◌<◌, ◌≡◌, refl, Bool, ◌&&◌, List, [], ◌∷◌, ◌++◌, ltb, eqb, length, get_or, take, drop, replicate}
-use Rattle.std.proofs.Common.{sym, ap, ap₂, ◌∙◌, add-zero, zero-add, add-suc, suc-add, add_assoc, mul-zero, mul_assoc, mul-le-mul_left, pow-suc, add-one, arith, eq-eqb, ne_eqb, lt-ltb, le-ltb, Fits, drop-cons, get_or-drop, get_or-append-add}
+use Rattle.std.specs.Prelude.{ℕ, zero, suc, ◌+◌, ◌*◌, ◌/◌, ◌%◌, ◌^◌, ◌-◌, ◌≤◌, ◌<◌, ◌≡◌, refl, Bool, ◌&&◌, List, []}
+use Rattle.std.specs.Prelude.{◌∷◌, ◌++◌, ltb, eqb, length, get_or, take, drop, replicate}
+use Rattle.std.proofs.Common.{sym, ap, ap₂, ◌∙◌, add-zero, zero-add, add-suc, suc-add, add_assoc, mul-zero, mul_assoc}
+use Rattle.std.proofs.Common.{mul-le-mul_left, pow-suc, add-one, arith, eq-eqb, ne_eqb, lt-ltb, le-ltb, Fits, drop-cons}
+use Rattle.std.proofs.Common.{get_or-drop, get_or-append-add}
 use Rattle.std.proofs.Math.Bool.{and_assoc, and-true}
 use Rattle.std.proofs.Math.Logic.{by_cases}
 use Rattle.std.proofs.Math.Decide.{ℕ_discrete}
@@ -58,7 +61,8 @@ le_back (suc n) x h rest = omega (
 )
 
 -- what was read is written as it stood
-pub le_again : (n : ℕ) (xs : List ℕ) (at : ℕ) → Bytes xs → at + n ≤ length xs → le_bytes n (le_at n xs at) ≡ part at n xs
+pub le_again : (n : ℕ) (xs : List ℕ) (at : ℕ) → Bytes xs → at + n ≤ length xs
+    → le_bytes n (le_at n xs at) ≡ part at n xs
 unfolding le_bytes le_at part
 le_again zero xs at b fits = refl
 le_again (suc n) xs at b fits = rw (drop-cons xs at 0 (omega arith))
@@ -78,7 +82,8 @@ le_two xs at = rw (add-one at) (omega arith)
 pub le_eight : (xs : List ℕ) (at : ℕ)
     → get_or xs at 0 + get_or xs (at + 1) 0 * 256 + get_or xs (at + 2) 0 * 65536 + get_or xs (at + 3) 0 * 16777216
     + get_or xs (at + 4) 0 * 4294967296
-    + get_or xs (at + 5) 0 * 1099511627776 + get_or xs (at + 6) 0 * 281474976710656 + get_or xs (at + 7) 0 * 72057594037927936
+    + get_or xs (at + 5) 0 * 1099511627776 + get_or xs (at + 6) 0 * 281474976710656
+    + get_or xs (at + 7) 0 * 72057594037927936
     ≡ le_at 8 xs at
 unfolding le_at
 le_eight xs at = rw (add-one at, add-two at, add-three at, add-four at, add_five at, add_six at, add_seven at)
@@ -249,7 +254,8 @@ both_none a b c = or_none (bit_xor a b) c ∙ ap (λ (t : Bool). t && eqb c 0) (
 
 -- the bytes before a place and the number there are zero if all these bytes are
 zero_number : (xs : List ℕ) (n at : ℕ)
-    → all_below (λ i. eqb (get_or xs i 0) 0) (at + n) ≡ (all_below (λ i. eqb (get_or xs i 0) 0) at && eqb (le_at n xs at) 0)
+    → all_below (λ i. eqb (get_or xs i 0) 0) (at + n)
+    ≡ (all_below (λ i. eqb (get_or xs i 0) 0) at && eqb (le_at n xs at) 0)
 unfolding le_at all_below
 zero_number xs zero at = ap (all_below (λ i. eqb (get_or xs i 0) 0)) (add-zero at)
     ∙ sym (and-true (all_below (λ i. eqb (get_or xs i 0) 0) at))
@@ -292,7 +298,8 @@ zeros_behind n m xs at bytes fits = by_cases (ℕ_discrete high 0)
     mul_some e = mul-le-mul_left (256 ^ n) (omega (arith, e))
 
     all : all_below (λ k. eqb (get_or (part (at + n) m xs) k 0) 0) (length (part (at + n) m xs)) ≡ eqb high 0
-    all = ap (all_below (λ k. eqb (get_or (part (at + n) m xs) k 0) 0)) (length_part (at + n) m xs fits ∙ sym (zero-add m))
+    all = ap (all_below (λ k. eqb (get_or (part (at + n) m xs) k 0) 0))
+        (length_part (at + n) m xs fits ∙ sym (zero-add m))
         ∙ zero_number (part (at + n) m xs) m 0
         ∙ ap (λ (b : Bool). b && eqb (le_at m (part (at + n) m xs) 0) 0)
         (all_none (λ k. eqb (get_or (part (at + n) m xs) k 0) 0))

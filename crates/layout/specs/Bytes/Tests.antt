@@ -1,6 +1,8 @@
 -- Tests over every number below a bound, and the first number that passes one.
-use Rattle.std.specs.Prelude.{ℕ, zero, suc, ◌+◌, ◌-◌, ◌≤◌, ◌<◌, ◌≡◌, refl, Bool, true, false, cond, ◌&&◌, List, eqb, length, get_or, replicate}
-use Rattle.std.proofs.Common.{sym, ap, ◌∙◌, true≢false, ⊎_elim, eq-or-lt_of_le, le_of_suc-le-suc, add-one, arith, eqb-true, eq-eqb, ext_get_or}
+use Rattle.std.specs.Prelude.{ℕ, zero, suc, ◌+◌, ◌-◌, ◌≤◌, ◌<◌, ◌≡◌, refl, Bool, true, false, cond, ◌&&◌, List, eqb}
+use Rattle.std.specs.Prelude.{length, get_or, replicate}
+use Rattle.std.proofs.Common.{sym, ap, ◌∙◌, true≢false, ⊎_elim, eq-or-lt_of_le, le_of_suc-le-suc, add-one, arith}
+use Rattle.std.proofs.Common.{eqb-true, eq-eqb, ext_get_or}
 use Rattle.std.proofs.lemmas.List.{length-replicate, get_or-replicate}
 use Rattle.layout.specs.Bytes.{all_below, all_zero, first_from}
 
@@ -56,7 +58,8 @@ all_more test n = rw (add-one n)
 -- so far zero, one byte more, and all
 pub zero_more : (xs : List ℕ) (k : ℕ) (clean : Bool) → clean ≡ all_below (λ i. eqb (get_or xs i 0) 0) k
     → (clean && eqb (get_or xs k 0) 0) ≡ all_below (λ i. eqb (get_or xs i 0) 0) (k + 1)
-zero_more xs k clean so = ap (λ (b : Bool). b && eqb (get_or xs k 0) 0) so ∙ sym (all_more (λ i. eqb (get_or xs i 0) 0) k)
+zero_more xs k clean so = ap (λ (b : Bool). b && eqb (get_or xs k 0) 0) so
+    ∙ sym (all_more (λ i. eqb (get_or xs i 0) 0) k)
 
 pub zero_done : (xs : List ℕ) (k : ℕ) (clean : Bool) → k ≤ length xs → length xs ≤ k
     → clean ≡ all_below (λ i. eqb (get_or xs i 0) 0) k → clean ≡ all_zero xs
@@ -80,7 +83,8 @@ zero_all xs each = all_of (λ i. eqb (get_or xs i 0) 0) (length xs) (λ k l. eq-
 pub replicate_zero : (n : ℕ) → all_zero (replicate n 0) ≡ true
 unfolding all_zero
 replicate_zero n = all_of (λ i. eqb (get_or (replicate n 0) i 0) 0) (length (replicate n 0))
-    (λ k l. eq-eqb (get_or (replicate n 0) k 0) 0 (get_or-replicate n k 0 0 (omega (arith, length-replicate {A = ℕ} n 0))))
+    (λ k l. eq-eqb (get_or (replicate n 0) k 0) 0
+    (get_or-replicate n k 0 0 (omega (arith, length-replicate {A = ℕ} n 0))))
 
 -- the first number that passes: here, later, or none
 pub first_here : (test : ℕ → Bool) (e k : ℕ) → k < e → test k ≡ true → first_from test (e - k) k ≡ k

@@ -23,7 +23,8 @@ pub record Examples : Type 0 where
   pub unknown : unknown_line ≡ bytes_of "?\n"
 
 pub examples : Examples
-unfolding bytes_of decimal_within decimal each_after joined unknown_line heading answer_line split_route split_line scanned
+unfolding bytes_of decimal_within decimal each_after joined unknown_line heading answer_line split_route split_line
+    scanned
     scan_line
 examples = record {
   number = refl;

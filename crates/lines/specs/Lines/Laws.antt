@@ -91,7 +91,8 @@ module _ (separator : ℕ) where
         each_short ns (λ i. h (suc i)),
       )
 
-  pub joined_short : (ns : List ℕ) → ((i : ℕ) → get_or ns i 0 < 65536) → length (joined separator ns) ≤ 6 * length ns + 1
+  pub joined_short : (ns : List ℕ) → ((i : ℕ) → get_or ns i 0 < 65536)
+      → length (joined separator ns) ≤ 6 * length ns + 1
   unfolding joined
   joined_short [] h = omega arith
   joined_short (n ∷ ns) h =
@@ -208,7 +209,8 @@ module _ (reply : ℕ) (visits : List ℕ) (matches : ℕ) where
       (λ e. omega (arith, scanned_length e, joined_short comma visits k, decimal_length 9 matches (omega arith)))
       (λ e. omega (arith, ap length (scanned_refused e)))
 
-  pub scan_is : scan_line reply visits matches ≡ heading letter_a reply ++ scanned reply visits matches ++ line_feed ∷ []
+  pub scan_is : scan_line reply visits matches
+      ≡ heading letter_a reply ++ scanned reply visits matches ++ line_feed ∷ []
   unfolding scan_line
   scan_is = refl
 

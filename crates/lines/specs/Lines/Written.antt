@@ -39,7 +39,8 @@ module _ (at separator : ℕ) (numbers entry : List ℕ)
   pub each_start : Wrote at (each_after separator (take 0 numbers)) entry entry at
   each_start = rw (each_none separator) (wrote_none at entry (omega arith))
 
-  module _ {next : ℕ} {out : List ℕ} (i : ℕ) (so : Wrote at (each_after separator (take i numbers)) entry out next) where
+  module _ {next : ℕ} {out : List ℕ} (i : ℕ)
+      (so : Wrote at (each_after separator (take i numbers)) entry out next) where
     pub each_wrote : length numbers ≤ i → Wrote at (each_after separator numbers) entry out next
     each_wrote all = rw (take_all i numbers all) at so
 

@@ -1,5 +1,5 @@
--- What the call leaves, by its ways out: what holds of every way out holds of the call. And that it is insert's outcome,
--- followed by split's on the file that the insert left.
+-- What the call leaves, by its ways out: what holds of every way out holds of the call. And that it is insert's
+-- outcome, followed by split's on the file that the insert left.
 use Rattle.std.specs.Prelude.{ℕ, ◌≡◌, Bool, ◌&&◌, List, true, false, not, eqb, length}
 use Rattle.std.proofs.Common.{refl, sym, ap, subst, ◌∙◌, arith}
 use Rattle.std.proofs.Math.Bool.{true≢false}
@@ -54,10 +54,12 @@ module _ (file table : List ℕ) (client key : ℕ) (payload : List ℕ) (t : �
     where
       go : (b : Bool) → (eqb (length answer) 24 && eqb (length payload) 14 && not (threshold_fits t)) ≡ b
           → P (insert_split file table client key payload t answer)
-      go true e = subst P (load_is file table client key payload t answer true e) (refused _ (unranged_spared file table answer) (λ p. true≢false
+      go true e = subst P (load_is file table client key payload t answer true e)
+          (refused _ (unranged_spared file table answer) (λ p. true≢false
           (sym (and_right (eqb (length answer) 24 && eqb (length payload) 14) (not (threshold_fits t)) e)
           ∙ ap not p.ranged)))
-      go false e = subst P (load_is file table client key payload t answer false e) (insert_ways file table client key payload answer
+      go false e = subst P (load_is file table client key payload t answer false e)
+          (insert_ways file table client key payload answer
           (λ o. P (controlled file table client key t o))
           (λ o r. subst P (controlled_refused file table client key t o (λ z. omega (arith, r.some, z)))
           (refused (alone NotDue o) (record {
@@ -70,7 +72,8 @@ module _ (file table : List ℕ) (client key : ℕ) (payload : List ℕ) (t : �
           (λ w h. subst P (controlled_refused file table client key t _ (λ z. omega (arith, z))) (there (passing w) h))
           (λ w h f. subst P (controlled_refused file table client key t _ (λ z. omega (arith, z)))
           (whole (passing w) h f))
-          (λ w h f. subst P (controlled_accepted file table client key t (accepted file table client key payload t answer) refl)
+          (λ w h f. subst P
+          (controlled_accepted file table client key t (accepted file table client key payload t answer) refl)
           (accepted_ways file table client key payload t answer P (record { passing = passing w; free = h; room = f })
           (single (record { passing = passing w; free = h; room = f }))
           (both (record { passing = passing w; free = h; room = f }))

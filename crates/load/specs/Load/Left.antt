@@ -17,7 +17,8 @@ use Rattle.layout.specs.Replies.{numbers_append, reply_among}
 use Rattle.layout.specs.Replies.Passing.{passes_back, passes_split, passes_on, refused_on}
 use Rattle.bucket.specs.Region.{every}
 use Rattle.client.specs.Table.{image_of}
-use Rattle.file.specs.File.{most_of, state_of, buckets_of, header_sound, region_of, bucket_sound_in, SplitOutcome, split}
+use Rattle.file.specs.File.{most_of, state_of, buckets_of, header_sound, region_of, bucket_sound_in, SplitOutcome}
+use Rattle.file.specs.File.{split}
 use Rattle.file.specs.File.Split.{split_reply}
 use Rattle.answer.specs.Answer.{block, no_payload}
 use Rattle.route.specs.Way.{early, way_of, held, full}
@@ -52,7 +53,8 @@ pub record Accepting (file table : List ℕ) (client key : ℕ) (payload : List 
 
 -- a refused split is refused by 5, 7 or 10
 split_numbers : (file : List ℕ) → ((split file).answer ≡ 0 → ⊥)
-    → (2 ≤ (split file).answer) × ((split file).answer ≤ 10) × ((split file).answer ≡ 8 → ⊥) × ((split file).answer ≡ 9 → ⊥)
+    → (2 ≤ (split file).answer) × ((split file).answer ≤ 10) × ((split file).answer ≡ 8 → ⊥)
+    × ((split file).answer ≡ 9 → ⊥)
 split_numbers file some = subst Among (sym (split_reply file))
     (reply_among Among _ (five, (ten, (seven, (seven, tt)))) 0 (λ z. absurd (z refl)))
     some
@@ -191,7 +193,8 @@ module _ (file table : List ℕ) (client key : ℕ) (payload : List ℕ) (t : �
   -- 2 to 9 as insert has them, and behind them 7 for a region of a split that is due and possible
   abbrev pub first_replies : List Refusal
   first_replies = early file table client
-      ++ (refuse 7 (not (every (bucket_sound_in file) (way_of file (image_of table client) key))) ∷ refuse 8 (held file key)
+      ++ (refuse 7 (not (every (bucket_sound_in file) (way_of file (image_of table client) key)))
+      ∷ refuse 8 (held file key)
       ∷ refuse 9 (full file key) ∷ [])
 
   abbrev pub splits : Bool

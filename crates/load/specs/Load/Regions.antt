@@ -11,7 +11,8 @@ use Rattle.address.proofs.Rules.Grow.{newborn_next}
 use Rattle.address.specs.Rules.Hash.{span_pos}
 use Rattle.layout.specs.Bytes.{Bytes, all_zero}
 use Rattle.bucket.specs.Region.{Whole}
-use Rattle.file.specs.File.{most_of, state_of, buckets_of, header_sound, region_of, bucket_sound_in, divided, SplitOutcome}
+use Rattle.file.specs.File.{most_of, state_of, buckets_of, header_sound, region_of, bucket_sound_in, divided}
+use Rattle.file.specs.File.{SplitOutcome}
 use Rattle.file.specs.File.{split}
 use Rattle.file.specs.File.Judge.{Ranges, Known, header_ranges, buckets_of_lem, existing}
 use Rattle.file.specs.File.Split.{split_number, split_born, split_unsound, split_dirty, split_done}
@@ -54,7 +55,8 @@ regions_ways file P bad used fine = go (bucket_sound_in file (splitting (state_o
     go true ex true ey = fine ex ey
 
 -- as they are judged
-pub old_own : (file : List ℕ) {own old : ℕ} → old ≡ own → bucket_sound_in file own ≡ true → true ≡ bucket_sound_in file old
+pub old_own : (file : List ℕ) {own old : ℕ} → old ≡ own → bucket_sound_in file own ≡ true
+    → true ≡ bucket_sound_in file old
 old_own file e good = sym (ap (bucket_sound_in file) e ∙ good)
 
 module _ (file : List ℕ) {header : Header} (seen : Known file header) {old : ℕ} (eo : old ≡ splitting header.state)
@@ -150,8 +152,10 @@ alike file next =
     ((split next).answer ≡ (split file).answer) × ((split next).old ≡ (split file).old)
     × ((split next).new ≡ (split file).new)
 
-split_alike : (file next : List ℕ) → header_sound file ≡ true → header_sound next ≡ true → buckets_of file < most_of file
-    → buckets_of next < most_of next → state_of next ≡ state_of file → regions_of next ≡ regions_of file → alike file next
+split_alike : (file next : List ℕ) → header_sound file ≡ true → header_sound next ≡ true
+    → buckets_of file < most_of file
+    → buckets_of next < most_of next → state_of next ≡ state_of file → regions_of next ≡ regions_of file
+    → alike file next
 split_alike file next header next-header more next_more state regions = regions_ways file
     (λ r. regions_of file ≡ r → regions_of next ≡ r → alike file next)
     (λ bad here there. stopped here there) (λ good used here there. stopped here there)
@@ -244,5 +248,6 @@ roomy {file} {header} known s x t ec = record {
   );
 }
 
-pub room_done : {file : List ℕ} {control : Control} → Roomy file control → control ≡ Done → buckets_of file < most_of file
+pub room_done : {file : List ℕ} {control : Control} → Roomy file control → control ≡ Done
+    → buckets_of file < most_of file
 room_done can e = can.more e

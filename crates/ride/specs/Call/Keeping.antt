@@ -48,6 +48,7 @@ forwards_few file table client key open_to r count payload long =
       arith,
       forwards_block r count (way_of file (image_of table client) key) payload long,
       ap forwards (way_route file (image_of table client) key),
-      forwards_short first_buckets (omega arith) (state_of file) (formed file table client open_to) (image_of table client)
+      forwards_short first_buckets (omega arith) (state_of file) (formed file table client open_to)
+          (image_of table client)
           (believes file table client open_to) (near file table client open_to) key,
     )

@@ -220,7 +220,8 @@ search_reply file table client key answer = routed_reply (eqb (length answer) 24
 pub insert_reply : (file table : List ℕ) (client key : ℕ) (payload answer : List ℕ)
     → (insert file table client key payload answer).answer
     ≡ reply (refuse 14 (not (eqb (length answer) 24 && eqb (length payload) 14)) ∷ (early file table client
-    ++ (refuse 7 (not (every (bucket_sound_in file) (way_of file (image_of table client) key))) ∷ refuse 8 (held file key)
+    ++ (refuse 7 (not (every (bucket_sound_in file) (way_of file (image_of table client) key)))
+    ∷ refuse 8 (held file key)
     ∷ refuse 9 (full file key) ∷ []))) 0
 unfolding insert
 insert_reply file table client key payload answer =

@@ -5,7 +5,8 @@ use Rattle.std.proofs.Common.{sym, ap, subst, ◌∙◌, arith, ltb-false, leb-f
 use Rattle.layout.specs.Bytes.{Bytes, all_zero}
 use Rattle.bucket.specs.Region.{Whole, count_of, slot_of}
 use Rattle.bucket.specs.Region.Keep.{slot_most}
-use Rattle.file.specs.File.{most_of, slots_of, state_of, buckets_of, header_sound, region_of, bucket_sound_in, region_sound}
+use Rattle.file.specs.File.{most_of, slots_of, state_of, buckets_of, header_sound, region_of, bucket_sound_in}
+use Rattle.file.specs.File.{region_sound}
 use Rattle.file.specs.File.{with_ride}
 use Rattle.file.specs.File.Judge.{Known}
 use Rattle.file.specs.File.Keeping.{Fitting, ride_header, ride_state, ride_most, ride_buckets, ride_known, ride_judged}

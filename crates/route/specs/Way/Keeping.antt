@@ -43,7 +43,8 @@ module _ (file table : List ℕ) (client : ℕ) (open_to : Passed file table cli
 
 module _ (file table : List ℕ) (client key : ℕ) (open_to : Passed file table client) where
   -- in a sound file no bucket on a route is unsound
-  pub route_sound : file_sound file ≡ true → every (bucket_sound_in file) (way_of file (image_of table client) key) ≡ true
+  pub route_sound : file_sound file ≡ true
+      → every (bucket_sound_in file) (way_of file (image_of table client) key) ≡ true
   unfolding way_of
   route_sound sound =
       let (h, short, d) = delivered first_buckets (omega arith) (state_of file) (formed file table client open_to)

@@ -46,7 +46,8 @@ module _ (file table : List ℕ) (client : ℕ) where
   early_else = reply_else (early file table client) early_numbered
 
   -- a call that is not refused has a sound record and a sound header, and its image is not ahead
-  pub early_none : reply (table_refusals table client) 0 ≡ 0 → record_sound table client ≡ true → header_sound file ≡ true
+  pub early_none : reply (table_refusals table client) 0 ≡ 0 → record_sound table client ≡ true
+      → header_sound file ≡ true
       → buckets first_buckets (image_of table client) ≤ buckets_of file
       → 0 ≡ reply (early file table client) 0
   unfolding early

@@ -25,7 +25,8 @@ own_exists file header key = rw (own_is file key (address first_buckets (state_o
     ))
 
 module _ (file : List ℕ) (key a : ℕ) (own : a ≡ own_of file key) where
-  pub held_is : (k n : ℕ) → k ≡ slot_of (region_of file a) key → n ≡ count_of (region_of file a) → ltb k n ≡ held file key
+  pub held_is : (k n : ℕ) → k ≡ slot_of (region_of file a) key → n ≡ count_of (region_of file a)
+      → ltb k n ≡ held file key
   unfolding held
   held_is k n ek en = ap₂ ltb (ek ∙ ap (λ (x : ℕ). slot_of (region_of file x) key) own)
       (en ∙ ap (λ (x : ℕ). count_of (region_of file x)) own)

@@ -164,7 +164,8 @@ module _ (file : List ℕ) (header : Header) (seen : Known file header) (image :
       (same (hash first_buckets (level first_buckets (state_of file) (address first_buckets image key)) key)
       (address first_buckets image key))
     where
-      right : walk.count ≡ 1 → hash first_buckets (level first_buckets (state_of file) (address first_buckets image key))
+      right : walk.count ≡ 1 → hash first_buckets
+          (level first_buckets (state_of file) (address first_buckets image key))
           key ≡ address first_buckets image key
       right one =
           let (h, d, count) = counted in
@@ -216,7 +217,8 @@ pub record AtOwn (file table : List ℕ) (client key : ℕ) (header : Header) (i
   pub first : walk.first ≤ most_buckets
   pub low : (adjusted_by header.state image walk).level < 256
   pub near : (adjusted_by header.state image walk).pointer < 65536
-  pub after : adjusted_by header.state image walk ≡ image_after first_buckets (state_of file) (image_of table client) key
+  pub after : adjusted_by header.state image walk
+      ≡ image_after first_buckets (state_of file) (image_of table client) key
 
 -- refused before any route
 pub way_refused : {file table : List ℕ} {client r : ℕ} → r ≡ reply (early file table client) 0 → {key : ℕ} {walk : Walk}

@@ -67,7 +67,8 @@ way_from file key start = route_from first_buckets (state_of file) key (buckets 
 pub way_is : (file : List ℕ) (image : Image) (key start : ℕ) → start ≡ address first_buckets image key
     → way_from file key start ≡ way_of file image key
 unfolding way_from
-way_is file image key start e = ap (route_from first_buckets (state_of file) key (buckets first_buckets (state_of file))) e
+way_is file image key start e = ap
+    (route_from first_buckets (state_of file) key (buckets first_buckets (state_of file))) e
     ∙ sym (way_route file image key ∙ route_is first_buckets (state_of file) image key)
 
 pub record Walking (file : List ℕ) (key : ℕ) (way : List ℕ) (walk : Walk) (a : ℕ) : Type 0 where
@@ -110,7 +111,8 @@ module _ (file : List ℕ) (key : ℕ) (formed : Formed first_buckets (state_of 
         room = omega (arith, reaches_room first_buckets some_first (state_of file) formed r);
         few = omega arith;
         whole = ap
-            (λ (l : List ℕ). l ++ route_from first_buckets (state_of file) key (buckets first_buckets (state_of file)) start)
+            (λ (l : List ℕ). l ++ route_from first_buckets (state_of file) key (buckets first_buckets (state_of file))
+            start)
             (sym (noted_none walk none));
         fine = ap (every (bucket_sound_in file)) (noted_none walk none) ∙ every_none (bucket_sound_in file);
       }
@@ -156,7 +158,8 @@ module _ (file : List ℕ) (key : ℕ) (formed : Formed first_buckets (state_of 
               ∙ every_past (bucket_sound_in file) (noted walk) (a ∷ rest) so.fine
               ∙ every_fails (bucket_sound_in file) a rest bad));
           met = noting
-              ∙ sym (ap (cut (bucket_sound_in file)) is ∙ cut_past (bucket_sound_in file) (noted walk) (a ∷ rest) so.fine
+              ∙ sym
+              (ap (cut (bucket_sound_in file)) is ∙ cut_past (bucket_sound_in file) (noted walk) (a ∷ rest) so.fine
               ∙ ap (λ (l : List ℕ). noted walk ++ l) (cut_fails (bucket_sound_in file) a rest bad));
           ended = λ e. absurd (omega (arith, e));
         }

@@ -13,7 +13,8 @@ pub bits_of-bits-requires : goal.bits_of-bits-requires
 bits_of-bits-requires c = (search rules, search way_exists, search rules)
 
 pub put_bucket-filled-requires : goal.put_bucket-filled-requires
-put_bucket-filled-requires c = (search rules, search way_exists, search (noted_sound, way_exists), search write_few, search write_room)
+put_bucket-filled-requires c =
+    (search rules, search way_exists, search (noted_sound, way_exists), search write_few, search write_room)
 
 pub loop-k-preserved : goal.loop-k-preserved
 loop-k-preserved c = search write_more

@@ -1,6 +1,7 @@
 -- Which keys of a bucket match, as bits, the first key's the lowest. The keys that such bits select are the matching
 -- ones, as many as bits are set; the trailing zeros of what is left of the bits tell the next of them.
-use Rattle.std.specs.Prelude.{ℕ, zero, suc, ◌+◌, ◌-◌, ◌*◌, ◌/◌, ◌%◌, ◌^◌, ◌≤◌, ◌<◌, ◌≡◌, refl, Bool, true, false, cond, List, [], ◌∷◌, eqb, length, get_or, drop}
+use Rattle.std.specs.Prelude.{ℕ, zero, suc, ◌+◌, ◌-◌, ◌*◌, ◌/◌, ◌%◌, ◌^◌, ◌≤◌, ◌<◌, ◌≡◌, refl, Bool, true, false, cond}
+use Rattle.std.specs.Prelude.{List, [], ◌∷◌, eqb, length, get_or, drop}
 use Rattle.std.proofs.Math.Path.{sym}
 use Rattle.std.proofs.Common.{ap, ◌∙◌, pow-suc, div-one, length-drop, pow_mono}
 use Rattle.std.proofs.Math.Nat.{pow-succ', div-div-eq-div-mul}

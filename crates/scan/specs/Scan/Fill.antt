@@ -1,7 +1,9 @@
 -- Writing the matches: what is left to write, written over the list as it is now, gives the list that the whole write
 -- leaves.
-use Rattle.std.specs.Prelude.{ℕ, suc, ◌+◌, ◌/◌, ◌^◌, ◌≤◌, ◌<◌, ◌≡◌, refl, List, [], ◌∷◌, ◌++◌, length, get_or, drop, set}
-use Rattle.std.proofs.Common.{sym, ap, ap₂, subst, ◌∙◌, arith, length-append, length-set, length-drop, get_or-drop, drop-drop}
+use Rattle.std.specs.Prelude.{ℕ, suc, ◌+◌, ◌/◌, ◌^◌, ◌≤◌, ◌<◌, ◌≡◌, refl, List, [], ◌∷◌, ◌++◌, length, get_or, drop}
+use Rattle.std.specs.Prelude.{set}
+use Rattle.std.proofs.Common.{sym, ap, ap₂, subst, ◌∙◌, arith, length-append, length-set, length-drop, get_or-drop}
+use Rattle.std.proofs.Common.{drop-drop}
 use Rattle.std.specs.Int.Count.{count_trailing_zeros}
 use Rattle.address.specs.Limits.{most_slots}
 use Rattle.layout.specs.Bytes.{edit}
@@ -64,7 +66,8 @@ module _ {keys : List ℕ} {bits from : ℕ} {old : List ℕ} {left slot filled 
       fill_fits = omega (arith, so.count, so.full, ap length left_in)
 
       pub fill_more : (key : ℕ) → key ≡ get_or keys (slot + count_trailing_zeros 64 left) 0
-          → Filled keys bits from old (left / 2 ^ count_trailing_zeros 64 left / 2) (slot + count_trailing_zeros 64 left + 1)
+          → Filled keys bits from old (left / 2 ^ count_trailing_zeros 64 left / 2)
+          (slot + count_trailing_zeros 64 left + 1)
           (filled + 1) (set now filled key)
       fill_more key here = record {
         within = omega (arith, fill_within);

@@ -116,7 +116,8 @@ module _ (file : List ℕ) (key : ℕ) where
 
     module _ (match : of_lift lift key ≡ true) where
       first_times : (a : ℕ) (way : List ℕ)
-          → times key (matches_on file lift (a ∷ way)) ≡ times key (keys_in file a) + times key (matches_on file lift way)
+          → times key (matches_on file lift (a ∷ way))
+          ≡ times key (keys_in file a) + times key (matches_on file lift way)
       first_times a way = omega (
         arith,
         ap (times key) (matches_first file lift a way),

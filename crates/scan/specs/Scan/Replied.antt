@@ -42,7 +42,8 @@ module _ (file : List ℕ) (lift : ℕ) (way visits matches : List ℕ) where
     abbrev keys : List ℕ
     keys = matches_on file lift way
 
-    pub collected_short : {r : ScanAnswer} → r ≡ refusal 12 no_bucket → length matches < length (matches_on file lift way)
+    pub collected_short : {r : ScanAnswer} → r ≡ refusal 12 no_bucket
+        → length matches < length (matches_on file lift way)
         → leaving r visits matches ≡ collected file lift way visits matches
     unfolding collected refused
     collected_short er short = rw (fine, lt-ltb (length matches) (length keys) short)

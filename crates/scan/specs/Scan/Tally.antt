@@ -1,6 +1,7 @@
 -- Judging and counting, in number order: what is counted so far and what is left make the sum over all buckets, which
 -- is the count of a visit order's matches.
-use Rattle.std.specs.Prelude.{ℕ, suc, ◌+◌, ◌-◌, ◌*◌, ◌/◌, ◌≤◌, ◌<◌, ◌≡◌, refl, Bool, true, false, cond, not, List, [], ◌∷◌, ◌++◌, eqb, length, get_or, drop, set}
+use Rattle.std.specs.Prelude.{ℕ, suc, ◌+◌, ◌-◌, ◌*◌, ◌/◌, ◌≤◌, ◌<◌, ◌≡◌, refl, Bool, true, false, cond, not, List, []}
+use Rattle.std.specs.Prelude.{◌∷◌, ◌++◌, eqb, length, get_or, drop, set}
 use Rattle.std.proofs.Common.{sym, ap, ◌∙◌, true≢false, arith, length-append}
 use Rattle.std.proofs.lemmas.Bool.{not-true, not-false}
 use Rattle.std.specs.Int.Count.{ones}

@@ -2,7 +2,8 @@
 -- rest prints, is the whole.
 use Rattle.std.specs.Prelude.{ℕ, ◌+◌, ◌-◌, ◌≤◌, ◌<◌, ◌≡◌, List, [], ◌∷◌, ◌++◌, length, take, drop, replicate}
 use Rattle.std.proofs.Math.Path.{refl, subst}
-use Rattle.std.proofs.Common.{◌∙◌, sym, ap, ap₂, append_assoc, append-nil, add-one, arith, lt-ltb, length-drop, drop_of_length-le, length-take-le}
+use Rattle.std.proofs.Common.{◌∙◌, sym, ap, ap₂, append_assoc, append-nil, add-one, arith, lt-ltb, length-drop}
+use Rattle.std.proofs.Common.{drop_of_length-le, length-take-le}
 use Rattle.client.specs.Table.{Joined, join}
 use Rattle.file.specs.File.{Created, create, SplitOutcome, split}
 use Rattle.ride.specs.Call.{Outcome, insert, search}
@@ -89,7 +90,8 @@ module _ (file table : List ℕ) (client lift : ℕ) {answer bucket visits match
   visits_room at fits = omega (arith, visits_few, visits_taken)
 
   pub scan_done : {at next : ℕ} {entry exit : List ℕ}
-      → WroteLine (line_room (length (take visits visit_list))) at (scan_line answer (take visits visit_list) matches) entry
+      → WroteLine (line_room (length (take visits visit_list))) at (scan_line answer (take visits visit_list) matches)
+      entry
       exit next
       → Done (line_room 16) (ran file table (Scan client lift)) file table at entry exit next
   unfolding ran
@@ -148,7 +150,8 @@ module _ {read : Command} (line : List ℕ) (is : read ≡ command_of line) (at 
   scan_room {client} {lift} told = omega (arith, line_room_lem line (Scan client lift) (sym is ∙ told))
 
 -- and what it does is done.
-module _ {read : Command} (line : List ℕ) (is : read ≡ command_of line) (command : Command) (told : read ≡ command) where
+module _ {read : Command} (line : List ℕ) (is : read ≡ command_of line) (command : Command)
+    (told : read ≡ command) where
   pub line_done : {after images entry exit : List ℕ} {at next : ℕ} (file table : List ℕ)
       → Done (room_of command) (ran file table command) after images at entry exit next
       → Done (room_for (length line + 1)) (ran file table (command_of line)) after images at entry exit next
@@ -201,7 +204,8 @@ pub printed_is : {made one two three four : List ℕ} {answer first second third
     → record { answer = third; table = three } ≡ join two 2
     → record { answer = fourth; table = four } ≡ join three 3
     → (input : List ℕ) {entry exit : List ℕ} {next : ℕ}
-    → Wrote 0 (printed_from made four (pieces line_feed input)) entry exit next → Wrote 0 (printed input) entry exit next
+    → Wrote 0 (printed_from made four (pieces line_feed input)) entry exit next
+    → Wrote 0 (printed input) entry exit next
 unfolding printed made_file joined_table
 printed_is m e1 e2 e3 e4 input {entry} {exit} {next} w = subst (λ (text : List ℕ). Wrote 0 text entry exit next)
     (ap₂ (λ (file images : List ℕ). printed_from file images (pieces line_feed input)) (ap (λ (o : Created). o.file) m)
