@@ -1,5 +1,6 @@
 -- The rules of LH*, sentence by sentence as document 01 has them, over the number of first buckets N, which is 1 in
--- every file. Numbers only. The definitions are shut: whoever needs them works from the laws of the modules below.
+-- every file. Numbers only. The definitions are shut, but for two that proofs/Rules opens: whoever needs them works
+-- from the laws of the modules below and of proofs/Rules.
 pub mod Address
 pub mod Adjust
 pub mod Cases

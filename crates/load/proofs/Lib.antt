@@ -1,2 +1,2 @@
--- The law that rests on what an edit in must-fail/ turns.
+-- The laws that rest on what an edit in must-fail/ turns.
 pub mod Load

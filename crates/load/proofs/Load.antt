@@ -1,2 +1,2 @@
--- The law of the call that a wrong outcome breaks.
+-- The laws of the call that a wrong outcome breaks.
 pub mod Left

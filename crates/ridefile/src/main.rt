@@ -15,7 +15,7 @@ fn output() -> [u8; 131072]
     [0; 131072]
 }
 
-// Reads until the buffer is full, the input ends or a read fails, and says how many bytes were put at the buffer's start.
+// Reads until the buffer is full, the input ends or a read fails, and says how many bytes it put at its start.
 fn read_full<R: Read>(reader: &mut R, buffer: &mut [u8]) -> usize
     ensures { result ≤ length buffer.new }
 {
@@ -32,7 +32,7 @@ fn read_full<R: Read>(reader: &mut R, buffer: &mut [u8]) -> usize
 
 fn main(rt: HostRuntime) {
     let mut input = [0u8; 4096];
-    let length = read_full(&mut rt.reader(), &mut input);
+    let length = read_full(&mut rt.stdin(), &mut input);
     let mut out = output();
     let end = session::run(&input[..length], &mut out);
     let _ = io::writer(&rt).write_all(&out[..end]);

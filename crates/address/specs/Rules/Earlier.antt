@@ -1,6 +1,6 @@
--- A scan's visits are in the order that `earlier` tells from two numbers alone. Every bucket that was sent a message is
--- believed in or has its parent among those that have handled theirs; so the children of the next one come after all
--- that were sent one before, the lower first.
+-- The order of two buckets that `earlier` tells from their numbers alone, and lists in that order: numbers believed in,
+-- and the children of a bucket behind all that were sent a message before. That a scan's visits are in it:
+-- proofs/Rules/Earlier.antt.
 use Prim.Native.Nat.{ℕ, zero, suc, ◌+◌, ◌-◌, ◌≤◌, ◌<◌}
 use Rattle.std.specs.Prelude.{◌≡◌, Bool, ◌||◌, List, [], ◌∷◌, ◌++◌, ◌⊎◌, length, get_or}
 use Rattle.std.proofs.Math.Path.{refl}

@@ -1,6 +1,5 @@
--- The bad bucket that a scan visits first, found in number order: a walk over the numbers from the lowest bad bucket on
--- that keeps the earlier of the best and the next ends there. The first is before every other bad bucket, so none takes
--- its place once it is reached, and it takes the place of any.
+-- The first number of a list that passes a test, and a walk over the numbers that keeps the earlier bad bucket of the
+-- best and the next. That it ends at the one that a scan visits first: proofs/Rules/First.antt.
 use Prim.Native.Nat.{ℕ, zero, suc, ◌+◌, ◌-◌, ◌≤◌, ◌<◌}
 use Rattle.std.specs.Prelude.{◌≡◌, Bool, true, false, cond, ◌&&◌, List, [], ◌∷◌, ◌⊎◌}
 use Rattle.std.proofs.Math.Path.{refl, ap}

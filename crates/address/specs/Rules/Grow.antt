@@ -1,6 +1,5 @@
--- What a split does to (i, n): one bucket more; only bucket n and the new bucket have another level; only keys of
--- bucket n move, and only to the new bucket. By the two cases of growth: the pointer goes up by one, or has come to the
--- span and the level goes up.
+-- What a split does to (i, n): well formed, and one bucket more. By the two cases of growth: the pointer goes up by
+-- one, or has come to the span and the level goes up. Levels and addresses after it: proofs/Rules/Grow.antt.
 use Rattle.std.specs.Prelude.{ℕ, suc, ◌+◌, ◌≤◌, ◌<◌, ◌≡◌}
 use Rattle.std.proofs.Common.{sym, subst, ◌∙◌, ⊎_elim, arith}
 use Rattle.address.specs.Compare.{below}

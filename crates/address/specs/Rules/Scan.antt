@@ -1,7 +1,6 @@
--- A scan by a client that is not ahead visits each existing bucket exactly once and nothing else, and its last round is
--- at most the highest bucket level less i'. A waiting message (a, m) weighs 1 at each bucket x with h_m(x) = a.
--- Handling it takes off just the weight at a, since h_{k}(x) = a splits into h_{k+1}(x) = a and h_{k+1}(x) = a + 2^k,
--- level by level. The opening weighs 1 at every bucket, and the whole weight is the room that is needed.
+-- A waiting message (a, m) weighs 1 at each bucket x with h_m(x) = a. Handling it takes off just the weight at a, since
+-- h_{k}(x) = a splits into h_{k+1}(x) = a and h_{k+1}(x) = a + 2^k, level by level. What a client that is not ahead
+-- sends weighs 1 at every bucket. A scan's visits and its last round: proofs/Rules/Scan.antt.
 use Prim.Native.Nat.{ℕ, zero, suc, ◌+◌, ◌-◌, ◌≤◌, ◌<◌}
 use Rattle.std.specs.Prelude.{◌≡◌, Bool, cond, ◌↔◌, eqb, length}
 use Rattle.std.proofs.Math.Path.{refl, sym, ap}
@@ -328,7 +327,7 @@ rounds_good N file base (m ∷ queue) g = omega (
   highest_level N file m.to g.0.exists,
 )
 
--- The definitions of what a scan handles, visits and lasts.
+-- what a scan handles, visits and lasts, as defined
 pub messages_is : (N : ℕ) (file image : Image)
     → messages N file image ≡ handled N file (buckets N file) (opening N image)
 unfolding messages
@@ -360,7 +359,7 @@ module _ (N : ℕ) (positive : 0 < N) (file : Image) (formed : Formed N file)
   )
 
   -- the opening weighs 1 at every bucket: the one that the client takes for its address
-  pub sent_past : (x a c : ℕ) → address N image x < a → a + c ≤ buckets N image
+  sent_past : (x a c : ℕ) → address N image x < a → a + c ≤ buckets N image
       → weight N x (map (λ b. message b (level N image b) 0) (numbers a c)) ≡ 0
   unfolding weight numbers
   sent_past x a zero past h = refl

@@ -1,5 +1,5 @@
--- A sum over the visits of a scan is the sum over all buckets, in any order, since each bucket stands among the visits
--- once. Both are the sum over the numbers below a bound, each as often as it stands in the list.
+-- A sum over a list of numbers below a bound is the sum over the numbers below it, each as often as it stands in the
+-- list. That a sum over a scan's visits is the sum over all buckets: proofs/Rules/Sums.antt.
 use Prim.Native.Nat.{ℕ, zero, suc, ◌+◌, ◌-◌, ◌*◌, ◌≤◌, ◌<◌}
 use Rattle.std.specs.Prelude.{◌≡◌}
 use Rattle.std.proofs.Math.Path.{refl, sym, ap}

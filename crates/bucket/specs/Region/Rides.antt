@@ -69,7 +69,7 @@ pub kept_out : (test : ℕ → Bool) (ride : Ride) (rides : List Ride) → test 
 unfolding kept
 kept_out test ride rides h = rw h
 
--- a property of lists of rides that a kept ride and a left_out ride both carry on
+-- a property of lists of rides that a kept ride and a left-out ride both carry on
 pub kept_ind : (test : ℕ → Bool) (ride : Ride) (rides : List Ride) (P : List Ride → Type 0)
     → (test ride.key ≡ true → P (ride ∷ kept test rides)) → (test ride.key ≡ false → P (kept test rides))
     → P (kept test (ride ∷ rides))

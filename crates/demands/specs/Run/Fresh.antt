@@ -1,5 +1,6 @@
 -- From nothing: a file just made holds nothing, and a client joined is at (0, 0) with a sound record and stays so while
--- others are joined; so once every client of the table is joined, the memory is ready.
+-- others are joined; so once every client of the table is joined, the memory is ready (put together in
+-- proofs/Run/Fresh.antt).
 use Rattle.std.specs.Prelude.{ℕ, ◌≡◌, refl, ◌⊎◌, length}
 use Rattle.std.proofs.Math.Path.{sym, ap, subst}
 use Rattle.std.proofs.Common.{◌∙◌, inl, inr, ⊎_elim}

@@ -1,5 +1,5 @@
 -- What the demands shut out: a library that refuses everything, one that invents a route or a forward count, and one
--- that stores nothing.
+-- that stores nothing (the last by a premise here, and whole in proofs/Run/Shut.antt).
 use Rattle.std.specs.Prelude.{ℕ, ◌≤◌, ◌≡◌, refl, true, ◌&&◌, List, ◌∷◌, ◌⊎◌, eqb, length}
 use Rattle.std.proofs.Math.Path.{sym}
 use Rattle.std.proofs.Common.{ap, ◌∙◌, arith, eq-eqb}

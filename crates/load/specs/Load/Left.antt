@@ -1,5 +1,6 @@
 -- What the call leaves, by its ways out: refused, 8, 9, accepted alone, accepted with its split, or stopped by a region
--- of the split. Its reply, as documents 01 and 02 list it. And that it is insert's outcome, followed by split's.
+-- of the split. Its reply, as documents 01 and 02 list it. And that it is insert's outcome, alone or with the split of
+-- the file as it was. The rest: proofs/Load/Left.antt.
 use Rattle.std.specs.Prelude.{ℕ, ◌≤◌, ◌<◌, ◌≡◌, Bool, ◌&&◌, List, [], ◌∷◌, ◌++◌, leb, length}
 use Rattle.std.proofs.Math.Path.{refl, sym, ap, subst}
 use Rattle.std.proofs.Common.{ap₂, ◌∙◌, arith}
@@ -308,7 +309,7 @@ module _ (file table : List ℕ) (client key : ℕ) (payload : List ℕ) (t : �
           ∙ controlled_reply ex
           ∙ sym (reply_past 14 (not fits) _ 0 (ap not ex) ∙ reply_past 15 (not (threshold_fits t)) _ 0 (ap not ey))
 
-  -- ---- it is insert's outcome, followed where due and possible by split's on the file that the insert left
+  -- ---- it is insert's outcome, followed where due and possible by the split of the file as it was
 
   module _ (ranged : threshold_fits t ≡ true) where
     by_insert : controlled file table client key t (insert file table client key payload answer)

@@ -1,4 +1,5 @@
--- The outcome of a key call by its cases, in the replies' order; and no second outcome fits.
+-- The outcome of a key call by its cases, in the replies' order; and no second outcome fits. An accepted insert, from
+-- what was found and written: proofs/Call/Replied.antt.
 use Prim.Native.Nat.{ℕ, suc, ◌+◌}
 use Rattle.std.specs.Prelude.{◌≡◌, Bool, true, false, not, ◌&&◌, leb, ltb, eqb, length}
 use Rattle.std.proofs.Math.Path.{refl, ap, ap₂}
