@@ -2,7 +2,6 @@
 -- every file. Numbers only. The definitions are shut, but for two that proofs/Rules opens: whoever needs them works
 -- from the laws of the modules below and of proofs/Rules.
 pub mod Address
-pub mod Adjust
 pub mod Cases
 pub mod Earlier
 pub mod First

@@ -2,16 +2,22 @@
 -- did not keep the key, of more buckets than before. A first bucket a of level j that does not keep the key is below
 -- 2^(j-1), and the client then believes in exactly 2^(j-1) + a + 1 buckets.
 use Rattle.std.specs.Prelude.{ℕ, suc, ◌+◌, ◌-◌, ◌≤◌, ◌<◌, ◌≡◌}
-use Rattle.std.proofs.Common.{ap, ◌∙◌, ⊎_elim, arith}
+use Rattle.std.proofs.Common.{refl, ap, ◌∙◌, ⊎_elim, arith}
 use Rattle.address.specs.Compare.{below, same}
 use Rattle.address.specs.declared.Image.{Image}
 use Rattle.address.specs.Rules.{Formed, NotAhead, span, buckets, hash, address, level, wrapped}
-use Rattle.address.specs.Rules.{image_after}
+use Rattle.address.specs.Rules.{keeps, adjusted, image_after}
 use Rattle.address.specs.Rules.Hash.{span_suc, span_mono}
 use Rattle.address.specs.Rules.Cases.{buckets_is, level_split, level_low, keeps_yes, keeps_no, adjusted_kept}
 use Rattle.address.specs.Rules.Cases.{adjusted_behind}
 use Rattle.address.specs.Rules.Grow.{wrapped_formed, wrapped_buckets}
 use Rattle.address.specs.Rules.Route.{first_own, first_level, left_level, left_low, place}
+
+pub image_after_is : (N : ℕ) (file image : Image) (C : ℕ) → image_after N file image C
+    ≡ adjusted N image (address N image C) (level N file (address N image C))
+    (keeps N (address N image C) (level N file (address N image C)) C)
+unfolding image_after
+image_after_is N file image C = refl
 
 module _ (N : ℕ) (positive : 0 < N) (file : Image) (formed : Formed N file)
     (image : Image) (image_formed : Formed N image) (behind : NotAhead N file image) (C : ℕ) where

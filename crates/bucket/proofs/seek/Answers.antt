@@ -9,9 +9,6 @@ loop-next-init c = search sought_start
 pub returns-then-key_at-key : goal.returns-then-key_at-key
 returns-then-key_at-key c = search seek_met
 
--- LEFT cast-next : Need-overflow-cast-next
--- search wide_byte
-
 pub loop-next-smaller : goal.loop-next-smaller
 loop-next-smaller c = search seek_less
 

@@ -8,6 +8,3 @@ pub key_at-requires : goal.key_at-requires
 key_at-requires c = let a = c.args in
     let few : a.slot < a.header.slots = search known_slot in
     (omega arith, omega arith)
-
-pub returns : goal.returns
-returns c = cc

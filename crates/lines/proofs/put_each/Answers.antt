@@ -10,9 +10,6 @@ loop-i-init c = (search each_start, omega arith)
 pub put_byte-next-requires : goal.put_byte-next-requires
 put_byte-next-requires c = search separator_room
 
--- LEFT cast-put-number : Need-overflow-cast-put-number
--- search wide_number
-
 pub put_number-next-requires : goal.put_number-next-requires
 put_number-next-requires c = search each_number_room
 

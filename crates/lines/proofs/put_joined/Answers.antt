@@ -8,9 +8,6 @@ put_byte-requires c = search dash_room
 pub returns-then-numbers-eq0 : goal.returns-then-numbers-eq0
 returns-then-numbers-eq0 c = search dash_wrote
 
--- LEFT cast-put-number : Need-overflow-cast-put-number
--- search wide_number
-
 pub put_number-next-requires : goal.put_number-next-requires
 put_number-next-requires c = search first_room
 

@@ -17,9 +17,6 @@ parent_of-beside-requires c = omega (arith, lockstep_past c.loop-one.invariant c
 pub returns-then-above-beside : goal.returns-then-above-beside
 returns-then-above-beside c = search lockstep_siblings
 
-pub loop-one-smaller : goal.loop-one-smaller
-loop-one-smaller c = omega arith
-
 pub loop-one-preserved : goal.loop-one-preserved
 loop-one-preserved c = search lockstep_parents
 

@@ -7,9 +7,6 @@ use Rattle.order.proofs.fill_visits.Goals as goal
 pub loop-handled-init : goal.loop-handled-init
 loop-handled-init c = (omega arith, search visiting_start)
 
--- LEFT cast-bucket : Need-overflow-cast-bucket
--- omega (arith, c.slice-known3.given c.before.before.loop.handled)
-
 pub send_on-tail-requires : goal.send_on-tail-requires
 send_on-tail-requires c = visiting_room c.loop-handled.invariant.1 c.buckets-count.ensures
     c.loop-handled-test.true c.message_level-told.ensures c.level_of-own.ensures

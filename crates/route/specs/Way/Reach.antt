@@ -12,7 +12,7 @@ use Rattle.address.specs.declared.Image.{Image}
 use Rattle.address.specs.Rules.{Formed, NotAhead, hash, address, level, keeps, adjusted, image_after, route}
 use Rattle.address.specs.Rules.Cases.{buckets_is, keeps_yes, keeps_no, adjusted_kept}
 use Rattle.address.specs.Rules.Route.{Delivered, last, last_one, delivered, route_right, first_exists, first_right}
-use Rattle.address.specs.Rules.Adjust.{image_after_is}
+use Rattle.address.proofs.Rules.Adjust.{image_after_is}
 use Rattle.address.proofs.Rules.Adjust.{after_formed, after_behind}
 use Rattle.layout.specs.Replies.{Numbers, Refusal, refuse, reply, reply_none, reply_is, reply_append, reply_among}
 use Rattle.layout.specs.Replies.{reply_else, numbers_append}
