@@ -10,7 +10,7 @@ ghost use Rattle.address.specs.Rules.{span, hash, buckets, address, level, onwar
 ghost use Rattle.address.specs.Rules.{child, splitting, newborn, grown, parent};
 
 // A level and a pointer: the file's own state (i, n), or the image of it that a client has.
-#[derive(Clone, Copy)]
+#[derive(Clone, Copy, Debug, PartialEq, Eq)]
 pub struct Image {
     pub level: u32,
     pub pointer: u32,
@@ -18,7 +18,7 @@ pub struct Image {
 
 // What a key meets at a bucket: kept there, sent on to a numbered bucket, or stopped because that
 // bucket is unsound.
-#[derive(Clone, Copy)]
+#[derive(Clone, Copy, Debug, PartialEq, Eq)]
 pub enum Fate {
     Keep,
     SendOn(u32),

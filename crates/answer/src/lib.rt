@@ -57,9 +57,5 @@ pub fn forwards(answer: &[u8]) -> u32
     if answer.len() != 24 {
         return 0;
     }
-    let met = layout::wide(answer[1]) as u32;
-    if met == 0 {
-        return 0;
-    }
-    met - 1
+    u32::from(answer[1]).saturating_sub(1)
 }

@@ -3,25 +3,27 @@
 
 ghost use Rattle.std.specs.Prelude.{◌≡◌, ◌+◌, ◌*◌, ◌≤◌, ◌<◌, length};
 ghost use Rattle.layout.specs.Replies.{reply};
+ghost use Rattle.layout.specs.Replies.Refused.{given};
 ghost use Rattle.client.specs.Table.{Joined, image_of, record_formed, image_formed, table_refusals, caller_refusals};
 ghost use Rattle.client.specs.Table.{with_image, join};
 
 use address::Image;
+use layout::Refused;
 
-// The refusal of a table and a client's number: 2, 3, or 0 for none.
-pub fn table_refusal(table: &[u8], client: u64) -> u8
-    ensures { result ≡ reply (table_refusals table.now client) 0 }
+// The refusal of a table and a client's number, if one is due: 2 or 3.
+pub fn table_refusal(table: &[u8], client: u64) -> Result<(), Refused>
+    ensures { given result ≡ reply (table_refusals table.now client) 0 }
 {
     let long = table.len();
     let fits = (0 < long) & (long <= address::MOST_TABLE) & (long % 8 == 0);
     if !fits {
-        return 2;
+        return Err(Refused::Table);
     }
     let clients = (long / 8) as u64;
     if client < clients {
-        return 0;
+        return Ok(());
     }
-    3
+    Err(Refused::Client)
 }
 
 // Whether the fixed bytes of a client's record are right: the mark, and bytes 3, 6 and 7 of its word.
@@ -53,24 +55,21 @@ pub fn image_of(table: &[u8], client: u64) -> Image
 {
     let at = 8 * client as usize;
     Image {
-        level: layout::wide(table[at + 2]) as u32,
+        level: u32::from(table[at + 2]),
         pointer: layout::read2(table, at + 4) as u32,
     }
 }
 
-// The refusal of a caller, by table, number and record: 2, 3, 4, or 0 for none.
-pub fn caller_refusal(table: &[u8], client: u64) -> u8
-    ensures { result ≡ reply (caller_refusals table.now client) 0 }
+// The refusal of a caller, by table, number and record, if one is due: 2, 3 or 4.
+pub fn caller_refusal(table: &[u8], client: u64) -> Result<(), Refused>
+    ensures { given result ≡ reply (caller_refusals table.now client) 0 }
 {
-    let reply = table_refusal(table, client);
-    if reply != 0 {
-        return reply;
-    }
+    table_refusal(table, client)?;
     let sound = record_formed(table, client as usize) & image_formed(image_of(table, client));
     if !sound {
-        return 4;
+        return Err(Refused::Record);
     }
-    0
+    Ok(())
 }
 
 // Writes a client's image.
@@ -94,20 +93,14 @@ pub fn put_image(table: &mut [u8], client: u64, image: Image)
 }
 
 // Joins a client: its image becomes (0, 0), over any old content.
-pub fn join(table: &mut [u8], client: u64) -> u8
-    ensures { record { answer = result; table = table.new } ≡ join table.old client }
+pub fn join(table: &mut [u8], client: u64) -> Result<(), Refused>
+    ensures { record { answer = given result; table = table.new } ≡ join table.old client }
 {
-    let refused = table_refusal(table, client);
-    if refused != 0 {
-        return refused;
-    }
-    put_image(
-        table,
-        client,
-        Image {
-            level: 0,
-            pointer: 0,
-        },
-    );
-    0
+    let start = Image {
+        level: 0,
+        pointer: 0,
+    };
+    table_refusal(table, client)?;
+    put_image(table, client, start);
+    Ok(())
 }

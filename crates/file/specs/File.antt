@@ -1,5 +1,6 @@
 -- A file as document 01 lays it out: a header of 16 bytes, then M regions of 8 + 24·S bytes. When it is sound, and what
 -- create, check, view and split give.
+pub mod Fault
 pub mod Judge
 pub mod Region
 pub mod Create
@@ -7,7 +8,8 @@ pub mod Write
 pub mod Split
 pub mod Keeping
 use Rattle.std.specs.Prelude.{ℕ, suc, ◌+◌, ◌*◌, ◌-◌, Bool, true, false, cond, not, ◌&&◌, List, [], ◌∷◌, ◌++◌, leb, ltb}
-use Rattle.std.specs.Prelude.{eqb, length, replicate}
+use Rattle.std.specs.Prelude.{eqb, length, replicate, Option}
+use Rattle.std.specs.Bool.{then_some}
 use Rattle.address.specs.Limits.{first_buckets, no_bucket, most_buckets, most_slots}
 use Rattle.address.specs.declared.Image.{Image}
 use Rattle.address.specs.Rules.{«at», span, buckets, level, keeps, splitting, newborn, grown}
@@ -59,7 +61,6 @@ fixed_bytes file = marked file 0 file_mark && all_zero (part first_zero (16 - fi
 -- Its figures, each as it stands there.
 abbrev pub figures_of : List ℕ → Header
 figures_of file = record {
-  sound = true;
   state = state_of file;
   capacity = capacity_of file;
   slots = slots_of file;
@@ -76,11 +77,8 @@ pub header_sound : List ℕ → Bool
 header_sound file = leb 16 (length file) && fixed_bytes file && ranges_fit (length file) (figures_of file)
 
 -- The header that the code reads and judges once in a call: the figures of a sound header, else none.
-abbrev pub no_header : Header
-no_header = record { sound = false; state = «at» 0 0; capacity = 0; slots = 0; most = 0 }
-
-pub header_of : List ℕ → Header
-header_of file = cond (header_sound file) (figures_of file) no_header
+pub header_of : List ℕ → Option Header
+header_of file = then_some (header_sound file) (figures_of file)
 
 -- Then M regions of 8 + 24·S bytes.
 abbrev pub start_of : ℕ → ℕ → ℕ

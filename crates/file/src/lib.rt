@@ -1,43 +1,28 @@
 // The file's header and its buckets: judged, read and filled.
 #![tactic(auto)]
 
+mod fault;
+
 ghost use Rattle.std.specs.Prelude.{◌≡◌, true, false, ◌+◌, ◌≤◌, ◌<◌, length};
 ghost use Rattle.address.specs.Limits.{most_buckets, most_slots};
 ghost use Rattle.layout.specs.Bytes.{all_zero};
 ghost use Rattle.bucket.specs.Region.{slot_at, count_of, key_at, slot_of};
 ghost use Rattle.file.specs.File.Judge.{Known, FiguresOf};
 ghost use Rattle.file.specs.File.Region.{Standing};
-ghost use Rattle.file.specs.File.{file_length, figures_fit, state_fits, fixed_bytes, ranges_fit, no_header, header_of};
+ghost use Rattle.file.specs.File.{file_length, figures_fit, state_fits, fixed_bytes, ranges_fit, header_of};
 ghost use Rattle.file.specs.File.{most_of, buckets_of, start_of, region_of, bucket_sound_in, with_ride};
 
 use address::Image;
 use bucket::Judged;
+pub use fault::Fault;
 
-// A file's header, read and judged; of an unsound one nothing is known.
-#[derive(Clone, Copy)]
+// The figures of a file's header.
+#[derive(Clone, Copy, Debug, PartialEq, Eq)]
 pub struct Header {
-    pub sound: bool,
     pub state: Image,
     pub capacity: u32,
     pub slots: u32,
     pub most: u32,
-}
-
-// The header of a file that has none.
-pub fn no_header() -> Header
-    ensures { result ≡ no_header }
-{
-    let state = Image {
-        level: 0,
-        pointer: 0,
-    };
-    Header {
-        sound: false,
-        state,
-        capacity: 0,
-        slots: 0,
-        most: 0,
-    }
 }
 
 // Whether the figures are in range and the length is theirs.
@@ -83,14 +68,13 @@ pub fn figures(file: &[u8]) -> Header
     ensures { FiguresOf file.now result }
 {
     let state = Image {
-        level: layout::wide(file[2]) as u32,
+        level: u32::from(file[2]),
         pointer: layout::read2(file, 4) as u32,
     };
     Header {
-        sound: true,
         state,
-        capacity: layout::wide(file[3]) as u32,
-        slots: layout::wide(file[8]) as u32,
+        capacity: u32::from(file[3]),
+        slots: u32::from(file[8]),
         most: layout::read2(file, 6) as u32,
     }
 }
@@ -112,22 +96,22 @@ fn ranges_fit(long: u64, header: Header) -> bool
     state_fits(header.state, header.most)
 }
 
-// Reads a file's header and judges it.
-pub fn header_of(file: &[u8]) -> Header
+// Reads a file's header and judges it; of an unsound one nothing is known.
+pub fn header_of(file: &[u8]) -> Option<Header>
     ensures { result ≡ header_of file.now }
 {
     let long = file.len();
     if long < 16 {
-        return no_header();
+        return None;
     }
     if !fixed_bytes(file) {
-        return no_header();
+        return None;
     }
     let header = figures(file);
     if !ranges_fit(long as u64, header) {
-        return no_header();
+        return None;
     }
-    header
+    Some(header)
 }
 
 // Where a region starts.

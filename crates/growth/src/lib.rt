@@ -2,21 +2,49 @@
 #![tactic(auto)]
 
 ghost use Rattle.std.specs.Prelude.{◌≡◌, true, ◌≤◌, ◌<◌, length};
-ghost use Rattle.address.specs.Limits.{first_buckets, no_bucket};
+ghost use Rattle.address.specs.Limits.{first_buckets};
 ghost use Rattle.address.specs.Rules.{splitting, newborn};
-ghost use Rattle.file.specs.File.{SplitOutcome, divided, split, buckets_of, most_of, with_state, bucket_sound_in};
+ghost use Rattle.file.specs.File.{divided, split, buckets_of, most_of, with_state, bucket_sound_in};
 ghost use Rattle.file.specs.File.Judge.{Known};
+ghost use Rattle.growth.specs.Split.{answer_of, leaving};
 
 use address::Image;
-use file::Header;
+use file::{Fault, Header};
+use layout::Refused;
 
-// A split's reply, the old bucket and the new; with 7 the unsound one.
+// The buckets of a split: the one that was divided, and the one that was born.
+#[derive(Clone, Copy, Debug, PartialEq, Eq)]
+pub struct Divided {
+    pub old: u32,
+    pub new: u32,
+}
+
+// A split's reply for C, the old bucket and the new; with 7 the unsound one.
 #[repr(C)]
-#[derive(Clone, Copy)]
+#[derive(Clone, Copy, Debug, PartialEq, Eq)]
 pub struct SplitAnswer {
     pub reply: u32,
     pub old_bucket: u32,
     pub new_bucket: u32,
+}
+
+impl From<Result<Divided, Fault>> for SplitAnswer {
+    ghost from_gives = { λ done answer. answer ≡ answer_of done };
+
+    fn from(done: Result<Divided, Fault>) -> SplitAnswer {
+        match done {
+            Ok(divided) => SplitAnswer {
+                reply: 0,
+                old_bucket: divided.old,
+                new_bucket: divided.new,
+            },
+            Err(fault) => SplitAnswer {
+                reply: fault.number(),
+                old_bucket: fault.region(),
+                new_bucket: address::NO_BUCKET,
+            },
+        }
+    }
 }
 
 // Writes the state of a file's header.
@@ -53,60 +81,41 @@ pub fn divide(file: &mut [u8], header: Header, old: u32, new: u32)
 }
 
 // Splits a sound bucket n of a file with room for one more: 7, or both buckets' numbers.
-fn split_into(file: &mut [u8], header: Header, old: u32, new: u32) -> SplitAnswer
+fn split_into(file: &mut [u8], header: Header, old: u32, new: u32) -> Result<Divided, Fault>
     requires { Known file.old header × (buckets_of file.old < most_of file.old)
         × (old ≡ splitting header.state) × (new ≡ newborn first_buckets header.state)
         × (bucket_sound_in file.old old ≡ true) }
-    ensures { record { answer = result.reply; old = result.old_bucket; new = result.new_bucket; file = file.new }
-        ≡ split file.old }
+    ensures { leaving result file.new ≡ split file.old }
 {
     if !file::region_zero(file, header, new) {
-        return refused_split(7, new);
+        return Err(Fault::Region(new));
     }
     divide(file, header, old, new);
-    SplitAnswer {
-        reply: 0,
-        old_bucket: old,
-        new_bucket: new,
-    }
+    Ok(Divided { old, new })
 }
 
 // Splits bucket n of a file with room for one more: 7, or both buckets' numbers.
-fn split_bucket(file: &mut [u8], header: Header) -> SplitAnswer
+fn split_bucket(file: &mut [u8], header: Header) -> Result<Divided, Fault>
     requires { Known file.old header × (buckets_of file.old < most_of file.old) }
-    ensures { record { answer = result.reply; old = result.old_bucket; new = result.new_bucket; file = file.new }
-        ≡ split file.old }
+    ensures { leaving result file.new ≡ split file.old }
 {
     let old = address::splitting(header.state);
     if !file::bucket_sound(file, header, old) {
-        return refused_split(7, old);
+        return Err(Fault::Region(old));
     }
     let new = address::newborn(address::FIRST_BUCKETS, header.state);
     split_into(file, header, old, new)
 }
 
 // Splits bucket n: 5, 10, 7, or both buckets' numbers.
-pub fn split(file: &mut [u8]) -> SplitAnswer
-    ensures { record { answer = result.reply; old = result.old_bucket; new = result.new_bucket; file = file.new }
-        ≡ split file.old }
+pub fn split(file: &mut [u8]) -> Result<Divided, Fault>
+    ensures { leaving result file.new ≡ split file.old }
 {
-    let header = file::header_of(file);
-    if !header.sound {
-        return refused_split(5, address::NO_BUCKET);
-    }
+    let Some(header) = file::header_of(file) else {
+        return Err(Fault::Plain(Refused::Header));
+    };
     if header.most <= address::buckets(address::FIRST_BUCKETS, header.state) {
-        return refused_split(10, address::NO_BUCKET);
+        return Err(Fault::Plain(Refused::NoRoom));
     }
     split_bucket(file, header)
-}
-
-// A refused split's answer.
-fn refused_split(reply: u32, bucket: u32) -> SplitAnswer
-    ensures { (result.reply ≡ reply) × (result.old_bucket ≡ bucket) × (result.new_bucket ≡ no_bucket) }
-{
-    SplitAnswer {
-        reply,
-        old_bucket: bucket,
-        new_bucket: address::NO_BUCKET,
-    }
 }

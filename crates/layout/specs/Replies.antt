@@ -1,5 +1,6 @@
 -- The numbered replies: each is given exactly under its condition, and the first match wins.
 pub mod Passing
+pub mod Refused
 use Rattle.std.specs.Prelude.{ℕ, ◌≡◌, refl, Bool, true, false, cond, List, [], ◌∷◌, ◌++◌, eqb}
 use Rattle.std.proofs.Common.{ap, ne_eqb}
 

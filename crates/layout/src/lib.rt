@@ -1,8 +1,12 @@
 // Bytes in lent memory: little-endian numbers, two-byte marks, zeros and copies.
 #![tactic(auto)]
 
+mod refused;
+
 ghost use Rattle.std.specs.Prelude.{◌≡◌, ℕ, ◌+◌, ◌*◌, ◌≤◌, ◌<◌, eqb, length, replicate};
 ghost use Rattle.layout.specs.Bytes.{byte_at, le_at, le_bytes, marked, all_below, all_zero, edit, part};
+
+pub use refused::Refused;
 
 // A byte as a wide number.
 pub fn wide(x: u8) -> u64

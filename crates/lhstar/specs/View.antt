@@ -9,8 +9,8 @@ use Rattle.std.proofs.Math.ListN.{length}
 use Rattle.address.specs.Limits.{most_slots, most_buckets}
 use Rattle.layout.specs.Bytes.{part, le_at}
 use Rattle.layout.specs.Bytes.Edit.{part_is, length_part}
-use Rattle.file.specs.File.{view, start_of, slots_of, buckets_of, header_sound, header_of, bucket_sound_in}
-use Rattle.file.specs.File.Judge.{Known, known, header_flag}
+use Rattle.file.specs.File.{view, start_of, slots_of, buckets_of, header_sound, figures_of, bucket_sound_in}
+use Rattle.file.specs.File.Judge.{Known, FiguresOf, known, header_sound_lem, header_parts}
 use Rattle.file.specs.declared.Header.{Header}
 use Rattle.file.specs.File.Region.{view_header, view_high, view_unsound, view_fits, view_used}
 
@@ -22,7 +22,7 @@ view_start file a = cond (eqb (view_length file a) 0) 0 (start_of (slots_of file
 
 -- what a view of a byte or more says of its file
 pub record Viewed (file : List ℕ) (a : ℕ) : Type 0 where
-  pub seen : Known file (header_of file)
+  pub seen : Known file (figures_of file)
   pub exists : a < buckets_of file
   pub sound : bucket_sound_in file a ≡ true
 
@@ -33,17 +33,17 @@ module _ (file : List ℕ) (a : ℕ) (some : 0 < length (view file a)) where
   pub viewed : Viewed file a
   viewed = by_header (header_sound file) refl
     where
-      by_bucket : Known file (header_of file) → a < buckets_of file → (t : Bool) → bucket_sound_in file a ≡ t
+      by_bucket : Known file (figures_of file) → a < buckets_of file → (t : Bool) → bucket_sound_in file a ≡ t
           → Viewed file a
       by_bucket seen exists true e = record { seen = seen; exists = exists; sound = e }
       by_bucket seen exists false e = absurd (none (view_unsound file a seen.sound exists e))
 
-      by_number : Known file (header_of file) → (t : Bool) → ltb a (buckets_of file) ≡ t → Viewed file a
+      by_number : Known file (figures_of file) → (t : Bool) → ltb a (buckets_of file) ≡ t → Viewed file a
       by_number seen true e = by_bucket seen (ltb-true a (buckets_of file) e) (bucket_sound_in file a) refl
       by_number seen false e = absurd (none (view_high file a seen.sound (ltb-false a (buckets_of file) e)))
 
       by_header : (t : Bool) → header_sound file ≡ t → Viewed file a
-      by_header true e = by_number (known file (header_of file) refl (header_flag file ∙ e)) (ltb a (buckets_of file))
+      by_header true e = by_number (known file (figures_of file) (sym (header_sound_lem file e))) (ltb a (buckets_of file))
           refl
       by_header false e = absurd (none (view_header file a e))
 
@@ -66,13 +66,17 @@ module _ (file : List ℕ) (a : ℕ) {found : List ℕ} (is : found ≡ view fil
     seen : Viewed file a
     seen = viewed file a (omega (arith, ap length is))
 
+    -- its header is there
+    pub viewed_long : 16 ≤ length file
+    viewed_long = (header_parts file seen.seen.sound).0
+
     -- the bounds that its place asks, and the place
     pub viewed_bucket : a ≤ most_buckets
     viewed_bucket = omega (arith, seen.exists, seen.seen.ranges.few, seen.seen.ranges.figured.few_buckets)
 
-    module _ {header : Header} (read : header ≡ header_of file) where
+    module _ {header : Header} (read : FiguresOf file header) where
       slots : header.slots ≡ slots_of file
-      slots = ap (λ (h : Header). h.slots) read ∙ seen.seen.slots
+      slots = read.slots
 
       pub viewed_slots : header.slots ≤ most_slots
       viewed_slots = omega (arith, slots, seen.seen.ranges.figured.few_slots)
@@ -113,8 +117,8 @@ module _ (file : List ℕ) (a : ℕ) where
           ∙ empty_is (view file a) (eqb-true _ 0 e)
       by_length false e =
           let v = viewed file a (omega (arith, eqb-false (length (view file a)) 0 e)) in
-          let at = start_of (header_of file).slots a in
+          let at = start_of (figures_of file).slots a in
           let n = le_at 2 file (at + 4) in
           used_is at n (ap (λ (S : ℕ). start_of S a) v.seen.slots)
-          (view_fits file (header_of file) v.seen a at n refl refl v.exists v.sound)
-          (view_used file (header_of file) v.seen a at n refl refl v.exists v.sound)
+          (view_fits file (figures_of file) v.seen a at n refl refl v.exists v.sound)
+          (view_used file (figures_of file) v.seen a at n refl refl v.exists v.sound)

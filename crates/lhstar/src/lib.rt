@@ -2,7 +2,7 @@
 #![tactic(auto)]
 
 ghost use Rattle.std.specs.Prelude.{◌≡◌};
-ghost use Rattle.address.specs.Limits.{first_buckets};
+ghost use Rattle.address.specs.Limits.{first_buckets, no_bucket};
 ghost use Rattle.address.specs.Rules.{parent};
 ghost use Rattle.client.specs.Table.{join};
 ghost use Rattle.file.specs.File.{check, create, split};
@@ -10,16 +10,21 @@ ghost use Rattle.answer.specs.Answer.{forwards_in};
 ghost use Rattle.ride.specs.Call.{search, insert};
 ghost use Rattle.load.specs.Load.{insert_split};
 ghost use Rattle.scan.specs.Scan.{leaving, scan};
-ghost use Rattle.lhstar.specs.Load.{Numbered, numbered};
+ghost use Rattle.layout.specs.Replies.Refused.{given};
+ghost use Rattle.load.specs.Load.{number};
+ghost use Rattle.lhstar.specs.Load.{Numbered, numbered, numbers_of};
 ghost use Rattle.lhstar.specs.View.{view_start, view_length};
 
+use file::Fault;
 use growth::SplitAnswer;
+use layout::Refused;
+use load::{Control, Growth};
 use scan::ScanAnswer;
 use upkeep::CheckAnswer;
 
 // Where a part of the file starts, and its length; 0 and 0 where it is empty.
 #[repr(C)]
-#[derive(Clone, Copy)]
+#[derive(Clone, Copy, Debug, PartialEq, Eq)]
 pub struct ViewAnswer {
     pub start: u64,
     pub length: u64,
@@ -27,7 +32,7 @@ pub struct ViewAnswer {
 
 // The reply of an insert with load control, the number of what became of its split, and the split's answer.
 #[repr(C)]
-#[derive(Clone, Copy)]
+#[derive(Clone, Copy, Debug, PartialEq, Eq)]
 pub struct LoadNumbers {
     pub reply: u32,
     pub split: u32,
@@ -35,12 +40,57 @@ pub struct LoadNumbers {
     pub new_bucket: u32,
 }
 
+impl From<Result<Growth, Fault>> for LoadNumbers {
+    ghost from_gives = { λ done numbers. numbers ≡ numbers_of done };
+
+    fn from(done: Result<Growth, Fault>) -> LoadNumbers {
+        match done {
+            Ok(Growth::Split(divided)) => LoadNumbers {
+                reply: 0,
+                split: u32::from(Control::Done),
+                old_bucket: divided.old,
+                new_bucket: divided.new,
+            },
+            Ok(Growth::NotNeeded) => alone(Control::NotDue),
+            Ok(Growth::NoSpace) => alone(Control::NoRoom),
+            Err(fault) => LoadNumbers {
+                reply: fault.number(),
+                split: u32::from(Control::NotDue),
+                old_bucket: fault.region(),
+                new_bucket: address::NO_BUCKET,
+            },
+        }
+    }
+}
+
+// The numbers of an insert alone.
+fn alone(control: Control) -> LoadNumbers
+    ensures { result ≡ record { reply = 0; split = number control; old_bucket = no_bucket; new_bucket = no_bucket } }
+{
+    LoadNumbers {
+        reply: 0,
+        split: u32::from(control),
+        old_bucket: address::NO_BUCKET,
+        new_bucket: address::NO_BUCKET,
+    }
+}
+
+// The reply of a call: 0, or the number of its refusal.
+fn reply(done: Result<(), Refused>) -> u8
+    ensures { result ≡ given done }
+{
+    match done {
+        Ok(()) => 0,
+        Err(refused) => refused.number(),
+    }
+}
+
 // Writes the sound file in state (0, 0) without records.
 #[unsafe(no_mangle)]
 pub extern "C" fn lhstar_create(file: &mut [u8], capacity: u64, slots: u64, most: u64) -> u8
     ensures { record { answer = result; file = file.new } ≡ create file.old capacity slots most }
 {
-    upkeep::create(file, capacity, slots, most)
+    reply(upkeep::create(file, capacity, slots, most))
 }
 
 // Joins a client: its image becomes (0, 0), over any old content.
@@ -48,7 +98,7 @@ pub extern "C" fn lhstar_create(file: &mut [u8], capacity: u64, slots: u64, most
 pub extern "C" fn lhstar_join(table: &mut [u8], client: u64) -> u8
     ensures { record { answer = result; table = table.new } ≡ join table.old client }
 {
-    client::join(table, client)
+    reply(client::join(table, client))
 }
 
 // Inserts a ride through a client.
@@ -64,7 +114,7 @@ pub extern "C" fn lhstar_insert(
     ensures { record { answer = result; block = answer.new; table = table.new; file = file.new }
         ≡ insert file.old table.old client key payload.now answer.old }
 {
-    ride::insert(file, table, client, key, payload, answer)
+    reply(ride::insert(file, table, client, key, payload, answer))
 }
 
 // Inserts a ride through a client, and splits where its bucket's count makes that due.
@@ -90,14 +140,7 @@ pub extern "C" fn lhstar_insert_split(
         ≡ numbered (insert_split file.old table.old client key payload.now threshold
         answer.old) }
 {
-    let loaded = load::insert_split(file, table, client, key, payload, threshold, answer);
-    let control = loaded.split;
-    LoadNumbers {
-        reply: loaded.reply as u32,
-        split: load::number_of(control),
-        old_bucket: loaded.old_bucket,
-        new_bucket: loaded.new_bucket,
-    }
+    LoadNumbers::from(load::insert_split(file, table, client, key, payload, threshold, answer))
 }
 
 // Searches a key through a client.
@@ -112,7 +155,11 @@ pub extern "C" fn lhstar_search(
     ensures { record { answer = result; block = answer.new; table = table.new; file = file.now }
         ≡ search file.now table.old client key answer.old }
 {
-    ride::search(file, table, client, key, answer)
+    match ride::search(file, table, client, key, answer) {
+        Ok(true) => 0,
+        Ok(false) => 1,
+        Err(refused) => refused.number(),
+    }
 }
 
 // How often the key of an answer block was sent on.
@@ -129,7 +176,7 @@ pub extern "C" fn lhstar_split(file: &mut [u8]) -> SplitAnswer
     ensures { record { answer = result.reply; old = result.old_bucket; new = result.new_bucket; file = file.new }
         ≡ split file.old }
 {
-    growth::split(file)
+    SplitAnswer::from(growth::split(file))
 }
 
 // Scans a file for one lift through a client.
@@ -145,7 +192,7 @@ pub extern "C" fn lhstar_scan(
     ensures { leaving result visits.new matches.new
         ≡ scan file.now table.now client lift visits.old matches.old }
 {
-    scan::scan(file, table, client, lift, visits, matches)
+    ScanAnswer::from(scan::scan(file, table, client, lift, visits, matches))
 }
 
 // Checks a whole file.
@@ -153,7 +200,7 @@ pub extern "C" fn lhstar_scan(
 pub extern "C" fn lhstar_check(file: &[u8]) -> CheckAnswer
     ensures { record { answer = result.reply; bucket = result.bucket } ≡ check file.now }
 {
-    upkeep::check(file)
+    CheckAnswer::from(upkeep::check(file))
 }
 
 // Where the used slots of a bucket stand in the file.
@@ -169,7 +216,7 @@ pub extern "C" fn lhstar_view(file: &[u8], bucket: u64) -> ViewAnswer
             length: 0,
         };
     }
-    let header = file::header_of(file);
+    let header = file::figures(file);
     let at = file::start(header.slots, bucket as u32);
     ViewAnswer {
         start: at as u64 + 8,

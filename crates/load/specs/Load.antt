@@ -4,17 +4,20 @@ pub mod Left
 pub mod Own
 pub mod Regions
 pub mod Ways
-use Rattle.std.specs.Prelude.{ℕ, cond, not, ◌&&◌, List, [], leb, eqb, length}
+use Rattle.std.specs.Prelude.{ℕ, cond, not, ◌&&◌, List, [], leb, eqb, length, Result, Ok, Err}
 use Rattle.address.specs.Limits.{first_buckets, no_bucket}
 use Rattle.address.specs.declared.Image.{Image}
 use Rattle.address.specs.Rules.{buckets}
 use Rattle.address.specs.Load.{threshold_fits, overfull, due}
 use Rattle.client.specs.Table.{image_of}
 use Rattle.file.specs.File.{capacity_of, most_of, state_of, SplitOutcome, split}
+use Rattle.file.specs.File.Fault.{fault_number, fault_region}
+use Rattle.file.specs.declared.fault.Fault.{Fault}
 use Rattle.route.specs.Way.{way_of, own_of}
 use Rattle.answer.specs.Answer.{block, no_payload}
 use Rattle.ride.specs.Call.{Outcome, count_then, insert}
-use Rattle.load.specs.declared.LoadAnswer.{LoadAnswer}
+use Rattle.load.specs.declared.Growth.{Growth}
+use Rattle.load.specs.declared.Growth.TheVariants.{NotNeeded, Split, NoSpace}
 use Rattle.load.specs.declared.Control.{Control}
 use Rattle.load.specs.declared.Control.TheVariants.{NotDue, Done, NoRoom}
 
@@ -45,17 +48,43 @@ pub record Loaded : Type 0 where
   pub table : List ℕ
   pub file : List ℕ
 
-abbrev pub leaving : LoadAnswer → List ℕ → List ℕ → List ℕ → Loaded
-leaving r left after next =
-    record {
-      answer = r.reply;
-      split = r.split;
-      old = r.old_bucket;
-      new = r.new_bucket;
-      block = left;
-      table = after;
-      file = next;
-    }
+abbrev pub leaving : Result Growth Fault → List ℕ → List ℕ → List ℕ → Loaded
+leaving (Ok NotNeeded) left after next = record {
+  answer = 0;
+  split = NotDue;
+  old = no_bucket;
+  new = no_bucket;
+  block = left;
+  table = after;
+  file = next;
+}
+leaving (Ok (Split divided)) left after next = record {
+  answer = 0;
+  split = Done;
+  old = divided.old;
+  new = divided.new;
+  block = left;
+  table = after;
+  file = next;
+}
+leaving (Ok NoSpace) left after next = record {
+  answer = 0;
+  split = NoRoom;
+  old = no_bucket;
+  new = no_bucket;
+  block = left;
+  table = after;
+  file = next;
+}
+leaving (Err fault) left after next = record {
+  answer = fault_number fault;
+  split = NotDue;
+  old = fault_region fault;
+  new = no_bucket;
+  block = left;
+  table = after;
+  file = next;
+}
 
 -- An insert alone, refused or not: 65,535 twice as the split's answer.
 abbrev pub alone : Control → Outcome → Loaded

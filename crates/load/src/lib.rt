@@ -2,79 +2,65 @@
 #![tactic(auto)]
 
 ghost use Rattle.std.specs.Prelude.{◌≡◌, true, ◌+◌, ◌*◌, ◌≤◌, ◌<◌, length};
-ghost use Rattle.address.specs.Limits.{first_buckets, no_bucket, most_buckets, most_slots};
+ghost use Rattle.address.specs.Limits.{first_buckets, most_buckets, most_slots};
 ghost use Rattle.address.specs.Load.{percent};
 ghost use Rattle.address.specs.Room.{ImageRoom};
 ghost use Rattle.address.specs.Rules.{splitting, newborn};
-ghost use Rattle.layout.specs.Replies.{reply};
+ghost use Rattle.layout.specs.Replies.Refused.{given, number as number_of};
 ghost use Rattle.bucket.specs.Region.{count_of};
 ghost use Rattle.client.specs.Table.{image_of, record_sound, with_image};
 ghost use Rattle.file.specs.File.{buckets_of, most_of, region_of, bucket_sound_in, divided};
 ghost use Rattle.file.specs.File.Judge.{Known};
-ghost use Rattle.route.specs.Way.{early, noted, adjusted_by};
+ghost use Rattle.file.specs.declared.fault.Fault.TheVariants.{Plain};
+ghost use Rattle.route.specs.Way.{noted, adjusted_by};
 ghost use Rattle.route.specs.Way.Reach.{AtOwn};
 ghost use Rattle.answer.specs.Answer.{block, no_payload};
-ghost use Rattle.ride.specs.Call.{routed, placed};
-ghost use Rattle.load.specs.declared.Control.TheVariants.{NotDue, Done};
+ghost use Rattle.ride.specs.Call.{placed};
 ghost use Rattle.load.specs.Load.{number, decision, leaving, decided, controlled, insert_split};
-ghost use Rattle.load.specs.declared.Regions.TheVariants.{Sound};
 ghost use Rattle.load.specs.Load.Own.{refusal_at, Kept, Divisible};
-ghost use Rattle.load.specs.Load.Regions.{regions_of, regions_for, Roomy};
+ghost use Rattle.load.specs.Load.Regions.{Sound, regions_of, regions_for, Roomy};
 
-use address::Image;
-use file::Header;
-use route::{End, Opened, Walk};
+use file::{Fault, Header};
+use growth::Divided;
+use layout::Refused;
+use route::{Reached, Stop};
 
-// Whether a split was not due, done, or due in a file that has its most buckets.
-#[derive(Clone, Copy)]
+// Whether a split is not due, is done, or is due in a file that has its most buckets.
+#[derive(Clone, Copy, Debug, PartialEq, Eq)]
 pub enum Control {
     NotDue,
     Done,
     NoRoom,
 }
 
-// The regions of a split: both sound, or the first that is not.
-#[derive(Clone, Copy)]
-pub enum Regions {
-    Sound,
-    Unsound(u32),
-}
+// The number of each case, for C.
+impl From<Control> for u32 {
+    ghost from_gives = { λ control n. n ≡ number control };
 
-// The reply, whether a split was done, and its answer: the old bucket and the new; with 7 of the split the unsound one.
-#[derive(Clone, Copy)]
-pub struct LoadAnswer {
-    pub reply: u8,
-    pub split: Control,
-    pub old_bucket: u32,
-    pub new_bucket: u32,
-}
-
-// The answer of an insert alone.
-fn only(reply: u8, split: Control) -> LoadAnswer
-    ensures { (result.reply ≡ reply) × (result.split ≡ split) × (result.old_bucket ≡ no_bucket)
-        × (result.new_bucket ≡ no_bucket) }
-{
-    LoadAnswer {
-        reply,
-        split,
-        old_bucket: address::NO_BUCKET,
-        new_bucket: address::NO_BUCKET,
+    fn from(control: Control) -> u32 {
+        match control {
+            Control::NotDue => 0,
+            Control::Done => 1,
+            Control::NoRoom => 2,
+        }
     }
 }
 
-// The answer of a refusal: the route in the block, and with 7 of the split the unsound region's number.
-fn refuse(answer: &mut [u8], reply: u8, walk: Walk, number: u32) -> LoadAnswer
-    requires { (length answer.old ≡ 24) × (walk.count ≤ 3) }
-    ensures { (result.reply ≡ reply) × (result.split ≡ NotDue) × (result.old_bucket ≡ number)
-        × (result.new_bucket ≡ no_bucket) × (answer.new ≡ block reply (noted walk) 0 no_payload) }
+// What followed an insert: nothing, a split with its two buckets, or nothing for want of room.
+#[derive(Clone, Copy, Debug, PartialEq, Eq)]
+pub enum Growth {
+    NotNeeded,
+    Split(Divided),
+    NoSpace,
+}
+
+// Writes the block of a call that is refused on its way, and passes the refusal on.
+fn refuse(answer: &mut [u8], stop: Stop) -> Fault
+    requires { (length answer.old ≡ 24) × (stop.walk.count ≤ 3) }
+    ensures { (result ≡ Plain stop.refused)
+        × (answer.new ≡ block (number_of stop.refused) (noted stop.walk) 0 no_payload) }
 {
-    answer::put_block(answer, reply, walk, 0);
-    LoadAnswer {
-        reply,
-        split: Control::NotDue,
-        old_bucket: number,
-        new_bucket: address::NO_BUCKET,
-    }
+    Fault::Plain(ride::refuse(answer, stop))
 }
 
 // What an insert that leaves a count in a bucket makes due.
@@ -112,52 +98,47 @@ fn old_sound(file: &[u8], header: Header, own: u32, old: u32) -> bool
     file::bucket_sound(file, header, old)
 }
 
-// Judges the regions of a split: the bucket to be divided, then the region of the new one.
-fn judge_regions(file: &[u8], header: Header, own: u32) -> Regions
+// Judges the regions of a split: the bucket to be divided, then the region of the new one; the first that is unsound is
+// the error.
+fn judge_regions(file: &[u8], header: Header, own: u32) -> Result<(), u32>
     requires { Known file.now header × (buckets_of file.now < most_of file.now)
         × (bucket_sound_in file.now own ≡ true) }
     ensures { result ≡ regions_of file.now }
 {
     let old = address::splitting(header.state);
     if !old_sound(file, header, own, old) {
-        return Regions::Unsound(old);
+        return Err(old);
     }
     let new = address::newborn(address::FIRST_BUCKETS, header.state);
     if !file::region_zero(file, header, new) {
-        return Regions::Unsound(new);
+        return Err(new);
     }
-    Regions::Sound
+    Ok(())
 }
 
 // The regions of what is decided: those of a split that is to be done, else none to judge.
-fn judge_plan(file: &[u8], header: Header, own: u32, control: Control) -> Regions
+fn judge_plan(file: &[u8], header: Header, own: u32, control: Control) -> Result<(), u32>
     requires { Known file.now header × Roomy file.now control × (bucket_sound_in file.now own ≡ true) }
     ensures { result ≡ regions_for file.now control }
 {
     match control {
-        Control::Done => {
-            return judge_regions(file, header, own);
-        }
-        Control::NotDue => {
-            return Regions::Sound;
-        }
-        Control::NoRoom => {
-            return Regions::Sound;
-        }
+        Control::Done => judge_regions(file, header, own),
+        Control::NotDue => Ok(()),
+        Control::NoRoom => Ok(()),
     }
 }
 
-// Why an insert is refused at the key's own bucket: 8, the key is held, or 9, no slot is free; else 0.
-fn insert_refusal(place: usize, count: usize, slots: u32) -> u8
-    ensures { result ≡ refusal_at place count slots }
+// Why an insert is refused at the key's own bucket, if it is: 8, the key is held, or 9, no slot is free.
+fn insert_refusal(place: usize, count: usize, slots: u32) -> Result<(), Refused>
+    ensures { given result ≡ refusal_at place count slots }
 {
     if place < count {
-        return 8;
+        return Err(Refused::Held);
     }
     if slots as usize <= count {
-        return 9;
+        return Err(Refused::Full);
     }
-    0
+    Ok(())
 }
 
 // An insert that is refused at the key's own bucket: the image is adjusted all the same.
@@ -165,21 +146,21 @@ fn turn_away(
     table: &mut [u8],
     client: u64,
     answer: &mut [u8],
-    reply: u8,
-    state: Image,
-    image: Image,
-    walk: Walk,
-) -> LoadAnswer
-    requires { (length answer.old ≡ 24) × (walk.count ≤ 3) × (8 * client + 8 ≤ length table.old)
-        × (record_sound table.old client ≡ true) × (image ≡ image_of table.old client) × ImageRoom first_buckets state
-        × (walk.first ≤ most_buckets) × ((adjusted_by state image walk).level < 256)
-        × ((adjusted_by state image walk).pointer < 65536) }
-    ensures { (result.reply ≡ reply) × (result.split ≡ NotDue) × (result.old_bucket ≡ no_bucket)
-        × (result.new_bucket ≡ no_bucket) × (answer.new ≡ block reply (noted walk) 0 no_payload)
-        × (table.new ≡ with_image table.old client (adjusted_by state image walk)) }
+    reached: Reached,
+    refused: Refused,
+) -> Fault
+    requires { (length answer.old ≡ 24) × (reached.walk.count ≤ 3) × (8 * client + 8 ≤ length table.old)
+        × (record_sound table.old client ≡ true) × (reached.image ≡ image_of table.old client)
+        × ImageRoom first_buckets reached.header.state × (reached.walk.first ≤ most_buckets)
+        × ((adjusted_by reached.header.state reached.image reached.walk).level < 256)
+        × ((adjusted_by reached.header.state reached.image reached.walk).pointer < 65536) }
+    ensures { (result ≡ Plain refused)
+        × (answer.new ≡ block (number_of refused) (noted reached.walk) 0 no_payload)
+        × (table.new ≡ with_image table.old client (adjusted_by reached.header.state reached.image reached.walk)) }
 {
-    route::adjust(table, client, state, image, walk);
-    refuse(answer, reply, walk, address::NO_BUCKET)
+    let walk = reached.walk;
+    route::adjust(table, client, reached.header.state, reached.image, walk);
+    refuse(answer, Stop { refused, walk })
 }
 
 // Writes what an accepted insert writes: the client's image, the ride and the block.
@@ -190,42 +171,41 @@ fn place(
     key: u64,
     payload: &[u8],
     answer: &mut [u8],
-    opened: Opened,
-    end: End,
+    reached: Reached,
     count: usize,
 )
     requires { (length answer.old ≡ 24) × (length payload.now ≡ 14)
-        × AtOwn file.old table.old client key opened.header opened.image end.walk end.bucket
-        end.place
-        × (count ≡ count_of (region_of file.old end.bucket))
-        × (refusal_at end.place count opened.header.slots ≡ 0) }
+        × AtOwn file.old table.old client key reached.header reached.image reached.walk reached.bucket reached.place
+        × (count ≡ count_of (region_of file.old reached.bucket))
+        × (refusal_at reached.place count reached.header.slots ≡ 0) }
     ensures { (record { answer = 0; block = answer.new; table = table.new; file = file.new }
         ≡ placed file.old table.old client key payload.now)
-        × Kept file.old file.new opened.header }
+        × Kept file.old file.new reached.header }
 {
-    let header = opened.header;
-    route::adjust(table, client, header.state, opened.image, end.walk);
+    let header = reached.header;
+    route::adjust(table, client, header.state, reached.image, reached.walk);
     ride::put_placed(
-        file, header, end.bucket, count, key, payload, end.walk, answer,
+        file,
+        header,
+        reached.bucket,
+        count,
+        key,
+        payload,
+        reached.walk,
+        answer,
     );
 }
 
-// Divides bucket n of a file for which all is judged: the answer of an insert with its split.
-fn divide(file: &mut [u8], header: Header) -> LoadAnswer
+// Divides bucket n of a file for which all is judged: its two buckets.
+fn divide(file: &mut [u8], header: Header) -> Divided
     requires { Divisible file.old header }
-    ensures { (result.reply ≡ 0) × (result.split ≡ Done) × (result.old_bucket ≡ splitting header.state)
-        × (result.new_bucket ≡ newborn first_buckets header.state)
+    ensures { (result.old ≡ splitting header.state) × (result.new ≡ newborn first_buckets header.state)
         × (file.new ≡ divided file.old) }
 {
     let old = address::splitting(header.state);
     let new = address::newborn(address::FIRST_BUCKETS, header.state);
     growth::divide(file, header, old, new);
-    LoadAnswer {
-        reply: 0,
-        split: Control::Done,
-        old_bucket: old,
-        new_bucket: new,
-    }
+    Divided { old, new }
 }
 
 // Writes what is decided and judged: the insert, and then the split if it is to be done.
@@ -236,34 +216,24 @@ fn commit(
     key: u64,
     payload: &[u8],
     answer: &mut [u8],
-    opened: Opened,
-    end: End,
+    reached: Reached,
     count: usize,
     control: Control,
-) -> LoadAnswer
+) -> Result<Growth, Fault>
     requires { (length answer.old ≡ 24) × (length payload.now ≡ 14)
-        × AtOwn file.old table.old client key opened.header opened.image end.walk end.bucket
-        end.place
-        × (count ≡ count_of (region_of file.old end.bucket))
-        × (refusal_at end.place count opened.header.slots ≡ 0) × Roomy file.old control
+        × AtOwn file.old table.old client key reached.header reached.image reached.walk reached.bucket reached.place
+        × (count ≡ count_of (region_of file.old reached.bucket))
+        × (refusal_at reached.place count reached.header.slots ≡ 0) × Roomy file.old control
         × (regions_for file.old control ≡ Sound) }
     ensures { leaving result answer.new table.new file.new
         ≡ decided file.old table.old client key
         (placed file.old table.old client key payload.now) control }
 {
-    place(
-        file, table, client, key, payload, answer, opened, end, count,
-    );
+    place(file, table, client, key, payload, answer, reached, count);
     match control {
-        Control::Done => {
-            return divide(file, opened.header);
-        }
-        Control::NotDue => {
-            return only(0, Control::NotDue);
-        }
-        Control::NoRoom => {
-            return only(0, Control::NoRoom);
-        }
+        Control::Done => Ok(Growth::Split(divide(file, reached.header))),
+        Control::NotDue => Ok(Growth::NotNeeded),
+        Control::NoRoom => Ok(Growth::NoSpace),
     }
 }
 
@@ -276,30 +246,28 @@ fn accept(
     payload: &[u8],
     threshold: u64,
     answer: &mut [u8],
-    opened: Opened,
-    end: End,
+    reached: Reached,
     count: usize,
-) -> LoadAnswer
+) -> Result<Growth, Fault>
     requires { (length answer.old ≡ 24) × (length payload.now ≡ 14) × (threshold ≤ percent)
-        × AtOwn file.old table.old client key opened.header opened.image end.walk end.bucket
-        end.place
-        × (count ≡ count_of (region_of file.old end.bucket)) × (count ≤ most_slots)
-        × (refusal_at end.place count opened.header.slots ≡ 0) }
+        × AtOwn file.old table.old client key reached.header reached.image reached.walk reached.bucket reached.place
+        × (count ≡ count_of (region_of file.old reached.bucket)) × (count ≤ most_slots)
+        × (refusal_at reached.place count reached.header.slots ≡ 0) }
     ensures { leaving result answer.new table.new file.new
         ≡ controlled file.old table.old client key threshold
         (placed file.old table.old client key payload.now) }
 {
-    let header = opened.header;
-    let control = decide(header, end.bucket, (count + 1) as u32, threshold);
-    let regions = judge_plan(file, header, end.bucket, control);
-    match regions {
-        Regions::Unsound(number) => {
-            return refuse(answer, 7, end.walk, number);
-        }
-        Regions::Sound => {
-            return commit(
-                file, table, client, key, payload, answer, opened, end, count, control,
-            );
+    let header = reached.header;
+    let control = decide(header, reached.bucket, (count + 1) as u32, threshold);
+    match judge_plan(file, header, reached.bucket, control) {
+        Ok(()) => commit(
+            file, table, client, key, payload, answer, reached, count, control,
+        ),
+        Err(number) => {
+            let refused = Refused::Bucket;
+            let walk = reached.walk;
+            refuse(answer, Stop { refused, walk });
+            Err(Fault::Region(number))
         }
     }
 }
@@ -313,65 +281,26 @@ fn finish(
     payload: &[u8],
     threshold: u64,
     answer: &mut [u8],
-    opened: Opened,
-    end: End,
-) -> LoadAnswer
+    reached: Reached,
+) -> Result<Growth, Fault>
     requires { (length answer.old ≡ 24) × (length payload.now ≡ 14) × (threshold ≤ percent)
-        × AtOwn file.old table.old client key opened.header opened.image end.walk end.bucket
-        end.place }
+        × AtOwn file.old table.old client key reached.header reached.image reached.walk reached.bucket reached.place }
     ensures { leaving result answer.new table.new file.new
         ≡ controlled file.old table.old client key threshold
         (placed file.old table.old client key payload.now) }
 {
-    let header = opened.header;
-    let count = file::held_in(file, header, end.bucket);
-    let refused = insert_refusal(end.place, count, header.slots);
-    if refused != 0 {
-        return turn_away(
-            table,
-            client,
-            answer,
-            refused,
-            header.state,
-            opened.image,
-            end.walk,
-        );
+    let header = reached.header;
+    let count = file::held_in(file, header, reached.bucket);
+    match insert_refusal(reached.place, count, header.slots) {
+        Ok(()) => accept(
+            file, table, client, key, payload, threshold, answer, reached, count,
+        ),
+        Err(refused) => Err(turn_away(table, client, answer, reached, refused)),
     }
-    accept(
-        file, table, client, key, payload, threshold, answer, opened, end, count,
-    )
-}
-
-// A call that nothing refuses before its route: 7, or what it comes to at the key's own bucket.
-fn walk(
-    file: &mut [u8],
-    table: &mut [u8],
-    client: u64,
-    key: u64,
-    payload: &[u8],
-    threshold: u64,
-    answer: &mut [u8],
-) -> LoadAnswer
-    requires { (length answer.old ≡ 24) × (length payload.now ≡ 14) × (threshold ≤ percent)
-        × (reply (early file.old table.old client) 0 ≡ 0) }
-    ensures { leaving result answer.new table.new file.new
-        ≡ controlled file.old table.old client key threshold
-        (routed true file.old table.old client key answer.old
-        (placed file.old table.old client key payload.now)) }
-{
-    let opened = route::open(file, table, client);
-    let end = route::follow(file, table, client, opened, key);
-    let stopped = end.reply;
-    if stopped != 0 {
-        return refuse(answer, stopped, end.walk, address::NO_BUCKET);
-    }
-    finish(
-        file, table, client, key, payload, threshold, answer, opened, end,
-    )
 }
 
 // Inserts a ride through a client, and splits where its bucket's count makes that due: 14, 15, 2 to 6, 7, 8, 9, 7 of
-// the split, else 0.
+// the split, else what followed.
 pub fn insert_split(
     file: &mut [u8],
     table: &mut [u8],
@@ -380,33 +309,25 @@ pub fn insert_split(
     payload: &[u8],
     threshold: u64,
     answer: &mut [u8],
-) -> LoadAnswer
+) -> Result<Growth, Fault>
     ensures { leaving result answer.new table.new file.new
         ≡ insert_split file.old table.old client key payload.now threshold
         answer.old }
 {
     let fits = (answer.len() == 24) & (payload.len() == 14);
     if !fits {
-        return only(14, Control::NotDue);
+        return Err(Fault::Plain(Refused::Lengths));
     }
     let ranged = (1 <= threshold) & (threshold <= address::PERCENT);
     if !ranged {
-        return refuse(answer, 15, route::no_walk(), address::NO_BUCKET);
+        let refused = Refused::Threshold;
+        let walk = route::no_walk();
+        return Err(refuse(answer, Stop { refused, walk }));
     }
-    let refused = route::refusal(file, table, client);
-    if refused != 0 {
-        return refuse(answer, refused, route::no_walk(), address::NO_BUCKET);
-    }
-    walk(file, table, client, key, payload, threshold, answer)
-}
-
-// The number of each case, for C.
-pub fn number_of(control: Control) -> u32
-    ensures { result ≡ number control }
-{
-    match control {
-        Control::NotDue => 0,
-        Control::Done => 1,
-        Control::NoRoom => 2,
+    match route::reach(file, table, client, key) {
+        Ok(reached) => finish(
+            file, table, client, key, payload, threshold, answer, reached,
+        ),
+        Err(stop) => Err(refuse(answer, stop)),
     }
 }

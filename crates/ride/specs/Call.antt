@@ -6,9 +6,12 @@ pub mod Left
 pub mod Placing
 pub mod Replied
 use Rattle.std.specs.Prelude.{ℕ, suc, Bool, cond, not, ◌&&◌, List, eqb, length}
+use Rattle.std.specs.Prelude.{true, false, Result, Ok, Err}
 use Rattle.address.specs.Limits.{first_buckets}
 use Rattle.address.specs.Rules.{image_after}
+use Rattle.layout.specs.declared.refused.Refused.{Refused}
 use Rattle.layout.specs.Replies.{reply}
+use Rattle.layout.specs.Replies.Refused.{number}
 use Rattle.bucket.specs.Region.{count_of, ride_at, slot_of}
 use Rattle.client.specs.Table.{image_of, with_image}
 use Rattle.file.specs.File.{state_of, region_of, with_ride}
@@ -21,6 +24,14 @@ pub record Outcome : Type 0 where
   pub block : List ℕ
   pub table : List ℕ
   pub file : List ℕ
+
+-- The reply that a search's result stands for: 0 if its key is held, else 1; or the refusal's number.
+abbrev pub found : Bool → ℕ
+found held = cond held 0 1
+
+abbrev pub replied : Result Bool Refused → ℕ
+replied (Ok held) = found held
+replied (Err refused) = number refused
 
 -- The image after the call: adjusted with 0, 1, 8 and 9, and with nothing else.
 pub adjusted_table : List ℕ → List ℕ → ℕ → ℕ → List ℕ

@@ -5,14 +5,18 @@ ghost use Rattle.std.specs.Prelude.{◌≡◌, true, ◌+◌, ◌≤◌, ◌<◌
 ghost use Rattle.bucket.specs.Region.{Ride, count_of, ride_at};
 ghost use Rattle.file.specs.File.{slots_of, buckets_of, region_of, bucket_sound_in, with_ride};
 ghost use Rattle.file.specs.File.Judge.{Known};
-ghost use Rattle.layout.specs.Replies.{reply};
-ghost use Rattle.route.specs.Way.{early, noted};
+ghost use Rattle.layout.specs.Replies.Refused.{number, given};
+ghost use Rattle.route.specs.Way.{noted};
 ghost use Rattle.route.specs.Way.Reach.{AtOwn};
 ghost use Rattle.answer.specs.Answer.{block, no_payload};
-ghost use Rattle.ride.specs.Call.{Outcome, routed, searched, search, placed, insert};
+ghost use Rattle.ride.specs.Call.{Outcome, found, replied, searched, search, placed, insert};
 
 use file::Header;
-use route::{End, Opened, Walk};
+use layout::Refused;
+use route::{Reached, Stop, Walk};
+
+// The reply of a search whose key is not held.
+const ABSENT: u8 = 1;
 
 // Writes the block of a search that found its key, with the payload in the key's slot.
 fn put_found(file: &[u8], header: Header, bucket: u32, place: usize, walk: Walk, answer: &mut [u8])
@@ -26,66 +30,61 @@ fn put_found(file: &[u8], header: Header, bucket: u32, place: usize, walk: Walk,
     layout::copy14(answer, 10, file, at + (18 + 24 * place));
 }
 
-// A search that reached the key's own bucket: the payload found, or none.
+// A search that reached the key's own bucket: whether the key is held there, and then its payload is in the block.
 fn finish_search(
     file: &[u8],
     table: &mut [u8],
     client: u64,
     key: u64,
     answer: &mut [u8],
-    opened: Opened,
-    end: End,
-) -> u8
+    reached: Reached,
+) -> bool
     requires { (length answer.old ≡ 24)
-        × AtOwn file.now table.old client key opened.header opened.image end.walk end.bucket
-        end.place }
-    ensures { record { answer = result; block = answer.new; table = table.new; file = file.now }
+        × AtOwn file.now table.old client key reached.header reached.image reached.walk reached.bucket reached.place }
+    ensures { record { answer = found result; block = answer.new; table = table.new; file = file.now }
         ≡ searched file.now table.old client key }
 {
-    let header = opened.header;
-    let walk = end.walk;
-    let count = file::held_in(file, header, end.bucket);
-    route::adjust(table, client, header.state, opened.image, walk);
-    let found = end.place < count;
+    let header = reached.header;
+    let walk = reached.walk;
+    let count = file::held_in(file, header, reached.bucket);
+    route::adjust(table, client, header.state, reached.image, walk);
+    let found = reached.place < count;
     if found {
-        put_found(file, header, end.bucket, end.place, walk, answer);
-        return 0;
+        put_found(file, header, reached.bucket, reached.place, walk, answer);
+        return true;
     }
-    answer::put_block(answer, 1, walk, 0);
-    1
+    answer::put_block(answer, ABSENT, walk, 0);
+    false
 }
 
-// A search that nothing refuses before its route: 7, or what it finds at the key's own bucket.
-fn walk_search(file: &[u8], table: &mut [u8], client: u64, key: u64, answer: &mut [u8]) -> u8
-    requires { (length answer.old ≡ 24) × (reply (early file.now table.old client) 0 ≡ 0) }
-    ensures { record { answer = result; block = answer.new; table = table.new; file = file.now }
-        ≡ routed true file.now table.old client key answer.old
-        (searched file.now table.old client key) }
+// Writes the block of a call that is refused on its way, and passes the refusal on.
+pub fn refuse(answer: &mut [u8], stop: Stop) -> Refused
+    requires { (length answer.old ≡ 24) × (stop.walk.count ≤ 3) }
+    ensures { (result ≡ stop.refused)
+        × (answer.new ≡ block (number stop.refused) (noted stop.walk) 0 no_payload) }
 {
-    let opened = route::open(file, table, client);
-    let end = route::follow(file, table, client, opened, key);
-    let stopped = end.reply;
-    if stopped != 0 {
-        answer::put_block(answer, stopped, end.walk, 0);
-        return stopped;
-    }
-    finish_search(file, table, client, key, answer, opened, end)
+    answer::put_block(answer, stop.refused.number(), stop.walk, 0);
+    stop.refused
 }
 
-// Searches a key through a client: 14, 2 to 6, 7, else 0 with its payload or 1.
-pub fn search(file: &[u8], table: &mut [u8], client: u64, key: u64, answer: &mut [u8]) -> u8
-    ensures { record { answer = result; block = answer.new; table = table.new; file = file.now }
+// Searches a key through a client: 14, 2 to 6, 7, else whether it is held, with its payload.
+pub fn search(
+    file: &[u8],
+    table: &mut [u8],
+    client: u64,
+    key: u64,
+    answer: &mut [u8],
+) -> Result<bool, Refused>
+    ensures { record { answer = replied result; block = answer.new; table = table.new; file = file.now }
         ≡ search file.now table.old client key answer.old }
 {
     if answer.len() != 24 {
-        return 14;
+        return Err(Refused::Lengths);
     }
-    let refused = route::refusal(file, table, client);
-    if refused != 0 {
-        answer::put_block(answer, refused, route::no_walk(), 0);
-        return refused;
+    match route::reach(file, table, client, key) {
+        Ok(reached) => Ok(finish_search(file, table, client, key, answer, reached)),
+        Err(stop) => Err(refuse(answer, stop)),
     }
-    walk_search(file, table, client, key, answer)
 }
 
 // Places a ride in the key's own bucket, and writes the block of an insert that did, with the count then held.
@@ -118,56 +117,38 @@ fn finish_insert(
     key: u64,
     payload: &[u8],
     answer: &mut [u8],
-    opened: Opened,
-    end: End,
-) -> u8
+    reached: Reached,
+) -> Result<(), Refused>
     requires { (length answer.old ≡ 24) × (length payload.now ≡ 14)
-        × AtOwn file.old table.old client key opened.header opened.image end.walk end.bucket
-        end.place }
-    ensures { record { answer = result; block = answer.new; table = table.new; file = file.new }
+        × AtOwn file.old table.old client key reached.header reached.image reached.walk reached.bucket reached.place }
+    ensures { record { answer = given result; block = answer.new; table = table.new; file = file.new }
         ≡ placed file.old table.old client key payload.now }
 {
-    let header = opened.header;
-    let walk = end.walk;
-    let count = file::held_in(file, header, end.bucket);
-    let held = end.place < count;
+    let header = reached.header;
+    let walk = reached.walk;
+    let count = file::held_in(file, header, reached.bucket);
+    let held = reached.place < count;
     let full = header.slots as usize <= count;
-    route::adjust(table, client, header.state, opened.image, walk);
+    route::adjust(table, client, header.state, reached.image, walk);
     if held {
-        answer::put_block(answer, 8, walk, 0);
-        return 8;
+        let refused = Refused::Held;
+        return Err(refuse(answer, Stop { refused, walk }));
     }
     if full {
-        answer::put_block(answer, 9, walk, 0);
-        return 9;
+        let refused = Refused::Full;
+        return Err(refuse(answer, Stop { refused, walk }));
     }
-    put_placed(file, header, end.bucket, count, key, payload, walk, answer);
-    0
-}
-
-// An insert that nothing refuses before its route: 7, or what it comes to at the key's own bucket.
-fn walk_insert(
-    file: &mut [u8],
-    table: &mut [u8],
-    client: u64,
-    key: u64,
-    payload: &[u8],
-    answer: &mut [u8],
-) -> u8
-    requires { (length answer.old ≡ 24) × (length payload.now ≡ 14)
-        × (reply (early file.old table.old client) 0 ≡ 0) }
-    ensures { record { answer = result; block = answer.new; table = table.new; file = file.new }
-        ≡ routed true file.old table.old client key answer.old
-        (placed file.old table.old client key payload.now) }
-{
-    let opened = route::open(file, table, client);
-    let end = route::follow(file, table, client, opened, key);
-    let stopped = end.reply;
-    if stopped != 0 {
-        answer::put_block(answer, stopped, end.walk, 0);
-        return stopped;
-    }
-    finish_insert(file, table, client, key, payload, answer, opened, end)
+    put_placed(
+        file,
+        header,
+        reached.bucket,
+        count,
+        key,
+        payload,
+        walk,
+        answer,
+    );
+    Ok(())
 }
 
 // Inserts a ride through a client: 14, 2 to 6, 7, 8, 9, else 0.
@@ -178,18 +159,16 @@ pub fn insert(
     key: u64,
     payload: &[u8],
     answer: &mut [u8],
-) -> u8
-    ensures { record { answer = result; block = answer.new; table = table.new; file = file.new }
+) -> Result<(), Refused>
+    ensures { record { answer = given result; block = answer.new; table = table.new; file = file.new }
         ≡ insert file.old table.old client key payload.now answer.old }
 {
     let fits = (answer.len() == 24) & (payload.len() == 14);
     if !fits {
-        return 14;
+        return Err(Refused::Lengths);
     }
-    let refused = route::refusal(file, table, client);
-    if refused != 0 {
-        answer::put_block(answer, refused, route::no_walk(), 0);
-        return refused;
+    match route::reach(file, table, client, key) {
+        Ok(reached) => finish_insert(file, table, client, key, payload, answer, reached),
+        Err(stop) => Err(refuse(answer, stop)),
     }
-    walk_insert(file, table, client, key, payload, answer)
 }

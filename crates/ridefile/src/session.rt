@@ -31,11 +31,11 @@ pub fn run(input: &[u8], out: &mut [u8]) -> usize
     ensures { Wrote 0 (printed input.now) out.old out.new result }
 {
     let mut file = [0u8; 1680];
-    upkeep::create(&mut file, 2, 4, 16);
+    let _ = upkeep::create(&mut file, 2, 4, 16);
     let mut table = [0u8; 32];
-    client::join(&mut table, 0);
-    client::join(&mut table, 1);
-    client::join(&mut table, 2);
-    client::join(&mut table, 3);
+    let _ = client::join(&mut table, 0);
+    let _ = client::join(&mut table, 1);
+    let _ = client::join(&mut table, 2);
+    let _ = client::join(&mut table, 3);
     run_lines(input, &mut file, &mut table, out)
 }

@@ -1,7 +1,7 @@
 // A client's refusals, a key's route, and the client's image after it.
 #![tactic(auto)]
 
-ghost use Rattle.std.specs.Prelude.{◌≡◌, true, ◌++◌, ◌∷◌, [], ◌+◌, ◌*◌, ◌≤◌, ◌<◌, length};
+ghost use Rattle.std.specs.Prelude.{◌≡◌, true, ◌++◌, ◌∷◌, [], ◌+◌, ◌*◌, ◌≤◌, ◌<◌, length, IfOk, IfErr};
 ghost use Rattle.address.specs.Limits.{first_buckets, most_level, most_buckets};
 ghost use Rattle.address.specs.Room.{ImageRoom};
 ghost use Rattle.address.specs.Rules.{Formed, NotAhead};
@@ -9,6 +9,7 @@ ghost use Rattle.client.specs.Table.{image_of, record_sound, with_image};
 ghost use Rattle.file.specs.File.{state_of};
 ghost use Rattle.file.specs.File.Judge.{Known};
 ghost use Rattle.layout.specs.Replies.{reply};
+ghost use Rattle.layout.specs.Replies.Refused.{number, given};
 ghost use Rattle.route.specs.Way.{way_of, early, noted, adjusted_by};
 ghost use Rattle.route.specs.Way.Open.{Opening};
 ghost use Rattle.route.specs.Way.Reach.{OnWay, AtOwn};
@@ -16,9 +17,10 @@ ghost use Rattle.route.specs.Way.Route.{Walked};
 
 use address::{Fate, Image};
 use file::Header;
+use layout::Refused;
 
 // The buckets that a key has met, at most three.
-#[derive(Clone, Copy)]
+#[derive(Clone, Copy, Debug, PartialEq, Eq)]
 pub struct Walk {
     pub count: u32,
     pub first: u32,
@@ -26,13 +28,48 @@ pub struct Walk {
     pub third: u32,
 }
 
-// Where a walk ended: 7 at an unsound bucket, else 0 and then the slot that holds the key there, or the count.
-#[derive(Clone, Copy)]
-pub struct End {
-    pub reply: u8,
+// What a call starts with: the header and the client's image.
+#[derive(Clone, Copy, Debug, PartialEq, Eq)]
+pub struct Opened {
+    pub header: Header,
+    pub image: Image,
+}
+
+// The end of a walk: the key's own bucket, the slot that holds the key there, or the count, and the buckets met.
+#[derive(Clone, Copy, Debug, PartialEq, Eq)]
+struct End {
+    bucket: u32,
+    place: usize,
+    walk: Walk,
+}
+
+// A key at its own bucket: what its call started with, and the end of its walk.
+#[derive(Clone, Copy, Debug, PartialEq, Eq)]
+pub struct Reached {
+    pub header: Header,
+    pub image: Image,
     pub bucket: u32,
     pub place: usize,
     pub walk: Walk,
+}
+
+// Why a key did not reach its own bucket, and the buckets that it met by then.
+#[derive(Clone, Copy, Debug, PartialEq, Eq)]
+pub struct Stop {
+    pub refused: Refused,
+    pub walk: Walk,
+}
+
+// A refusal before any route.
+impl From<Refused> for Stop {
+    ghost from_gives = { λ refused stop. (stop.refused ≡ refused) × (stop.walk.count ≡ 0) };
+
+    fn from(refused: Refused) -> Stop {
+        Stop {
+            refused,
+            walk: no_walk(),
+        }
+    }
 }
 
 // No bucket yet.
@@ -77,12 +114,12 @@ fn note(walk: Walk, bucket: u32) -> Walk
     }
 }
 
-// Walks a key's route from a client's image until a bucket keeps it or is unsound.
-fn walk_route(file: &[u8], header: Header, image: Image, key: u64) -> End
+// Walks a key's route from a client's image until a bucket keeps it, or is unsound.
+fn walk_route(file: &[u8], header: Header, image: Image, key: u64) -> Result<End, Walk>
     requires { Known file.now header × (image.level ≤ most_level) × Formed first_buckets image
         × NotAhead first_buckets (state_of file.now) image }
-    ensures { Walked file.now key (way_of file.now image key) result.walk result.bucket
-        result.place result.reply }
+    ensures reached { IfOk result (λ end. Walked file.now key (way_of file.now image key) end.walk end.bucket end.place 0) }
+    ensures stopped { IfErr result (λ walk. Walked file.now key (way_of file.now image key) walk 0 0 7) }
 {
     let state = header.state;
     let mut bucket = address::address(address::FIRST_BUCKETS, image, key);
@@ -94,75 +131,65 @@ fn walk_route(file: &[u8], header: Header, image: Image, key: u64) -> End
         let fate = address::fate_at(address::FIRST_BUCKETS, judged.sound, bucket, level, key);
         match fate {
             Fate::Keep => {
-                return End {
-                    reply: 0,
+                return Ok(End {
                     bucket,
                     place: judged.place,
                     walk,
-                };
+                });
             }
             Fate::SendOn(next) => {
                 bucket = next;
             }
             Fate::Unsound => {
-                return End {
-                    reply: 7,
-                    bucket,
-                    place: 0,
-                    walk,
-                };
+                return Err(walk);
             }
         }
     }
 }
 
-// The refusal of a call before any route, in the replies' order: 2 to 4, 5, 6, or 0 for none.
-pub fn refusal(file: &[u8], table: &[u8], client: u64) -> u8
-    ensures { result ≡ reply (early file.now table.now client) 0 }
+// Judges a call before any route, in the replies' order, and reads what it starts with: 2 to 4, 5 or 6, else both.
+#[inline(always)]
+pub fn open(file: &[u8], table: &[u8], client: u64) -> Result<Opened, Refused>
+    ensures opened { IfOk result (λ opened. Opening file.now table.now client opened.header opened.image) }
+    ensures refused { given result ≡ reply (early file.now table.now client) 0 }
 {
-    let refused = client::caller_refusal(table, client);
-    if refused != 0 {
-        return refused;
-    }
-    let header = file::header_of(file);
-    if !header.sound {
-        return 5;
-    }
+    client::caller_refusal(table, client)?;
+    let Some(header) = file::header_of(file) else {
+        return Err(Refused::Header);
+    };
     let image = client::image_of(table, client);
     let ahead = address::buckets(address::FIRST_BUCKETS, header.state)
         < address::buckets(address::FIRST_BUCKETS, image);
     if ahead {
-        return 6;
+        return Err(Refused::Ahead);
     }
-    0
+    Ok(Opened { header, image })
 }
 
-// What a call starts with: the header and the client's image.
-#[derive(Clone, Copy)]
-pub struct Opened {
-    pub header: Header,
-    pub image: Image,
-}
-
-// Reads both, where no refusal is due. The judgment does not hand them on: it answers a number, where a struct would go
-// through memory.
-pub fn open(file: &[u8], table: &[u8], client: u64) -> Opened
-    requires { reply (early file.now table.now client) 0 ≡ 0 }
-    ensures { Opening file.now table.now client result.header result.image }
+// Follows a key to its own bucket: 2 to 6 before any route, or 7 with the buckets met.
+#[inline(always)]
+pub fn reach(file: &[u8], table: &[u8], client: u64, key: u64) -> Result<Reached, Stop>
+    ensures reached { IfOk result (λ reached. OnWay file.now table.now client key reached.walk 0
+        × AtOwn file.now table.now client key reached.header reached.image
+        reached.walk reached.bucket reached.place) }
+    ensures stopped { IfErr result (λ stop. OnWay file.now table.now client key stop.walk (number stop.refused)) }
 {
-    let header = file::figures(file);
-    let image = client::image_of(table, client);
-    Opened { header, image }
-}
-
-// Follows the key of an opened call to its own bucket: 7, or 0. The table is lent for what is promised of it.
-pub fn follow(file: &[u8], table: &[u8], client: u64, opened: Opened, key: u64) -> End
-    requires { Opening file.now table.now client opened.header opened.image }
-    ensures { OnWay file.now table.now client key result.walk result.reply
-        × (result.reply ≡ 0 → AtOwn file.now table.now client key opened.header opened.image
-        result.walk result.bucket result.place) }
-{
-    walk_route(file, opened.header, opened.image, key)
+    let opened = open(file, table, client)?;
+    let header = opened.header;
+    let image = opened.image;
+    match walk_route(file, header, image, key) {
+        Ok(end) => Ok(Reached {
+            header,
+            image,
+            bucket: end.bucket,
+            place: end.place,
+            walk: end.walk,
+        }),
+        Err(walk) => Err(Stop {
+            refused: Refused::Bucket,
+            walk,
+        }),
+    }
 }
 
 // Writes a client's image after its first bucket sent the key on; where that kept it, the image stays as it stands.

@@ -10,6 +10,7 @@ pub mod Tally
 pub mod Unsound
 pub mod Way
 use Rattle.std.specs.Prelude.{ℕ, ◌/◌, Bool, cond, not, List, [], ◌∷◌, ◌++◌, ltb, eqb, length}
+use Rattle.std.specs.Prelude.{Result, Ok, Err}
 use Rattle.address.specs.Limits.{first_buckets, no_bucket}
 use Rattle.address.specs.declared.Image.{Image}
 use Rattle.address.specs.Rules.{visits}
@@ -18,7 +19,10 @@ use Rattle.layout.specs.Replies.{reply}
 use Rattle.bucket.specs.Region.{rides_of, keys_of, every}
 use Rattle.client.specs.Table.{image_of}
 use Rattle.file.specs.File.{state_of, buckets_of, region_of, bucket_sound_in}
+use Rattle.file.specs.File.Fault.{fault_number, fault_region}
+use Rattle.file.specs.declared.fault.Fault.{Fault}
 use Rattle.route.specs.Way.{early}
+use Rattle.scan.specs.declared.Counts.{Counts}
 use Rattle.scan.specs.declared.ScanAnswer.{ScanAnswer}
 
 -- A key's upper 32 bits are the lift: it is of a lift if they are that number.
@@ -73,6 +77,12 @@ leaving r visits matches =
 -- A refused scan answers counts 0, and leaves both lists untouched.
 abbrev pub refusal : ℕ → ℕ → ScanAnswer
 refusal r a = record { reply = r; bucket = a; visits = 0; matches = 0 }
+
+-- The answer for C that a scan's result stands for: 0 with both counts, or the refusal.
+abbrev pub answer_of : Result Counts Fault → ScanAnswer
+answer_of (Ok counts) =
+    record { reply = 0; bucket = no_bucket; visits = counts.visits; matches = counts.matches }
+answer_of (Err fault) = refusal (fault_number fault) (fault_region fault)
 
 pub refused : ℕ → ℕ → List ℕ → List ℕ → Scanned
 refused r a visits matches = leaving (refusal r a) visits matches

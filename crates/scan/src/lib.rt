@@ -2,13 +2,13 @@
 // in visit order. Only so many matches are noted meanwhile that the memory taken is the same for every file.
 #![tactic(auto)]
 
-ghost use Rattle.std.specs.Prelude.{◌≡◌, true, ◌+◌, ◌^◌, ◌≤◌, ◌<◌, length, set};
-ghost use Rattle.address.specs.Limits.{first_buckets};
+ghost use Rattle.std.specs.Prelude.{◌≡◌, true, false, ◌+◌, ◌^◌, ◌≤◌, ◌<◌, length, set, IfOk, IfErr};
+ghost use Rattle.address.specs.Limits.{first_buckets, no_bucket};
 ghost use Rattle.address.specs.Rules.First.{better};
 ghost use Rattle.layout.specs.Bytes.{edit};
 ghost use Rattle.file.specs.File.{buckets_of, bucket_sound_in};
 ghost use Rattle.file.specs.File.Judge.{Known};
-ghost use Rattle.scan.specs.Scan.{of_lift, keys_in, matches_on, visits_of, first_unsound, refusal, collected, leaving};
+ghost use Rattle.scan.specs.Scan.{of_lift, keys_in, matches_on, visits_of, first_unsound, answer_of, collected, leaving};
 ghost use Rattle.scan.specs.Scan.{scan};
 ghost use Rattle.scan.specs.Scan.Bits.{bits_of, selected};
 ghost use Rattle.scan.specs.Scan.Notes.{Noted};
@@ -17,16 +17,45 @@ ghost use Rattle.scan.specs.Scan.Unsound.{unsound, Lowest};
 ghost use Rattle.scan.specs.Scan.Way.{Starting, Way};
 
 use address::{FIRST_BUCKETS, Image};
-use file::Header;
+use file::{Fault, Header};
+use layout::Refused;
 
-// A scan's reply, the unsound bucket with 7, and how many entries each list got.
+// How many entries each list of a scan got.
+#[derive(Clone, Copy, Debug, PartialEq, Eq)]
+pub struct Counts {
+    pub visits: u32,
+    pub matches: u32,
+}
+
+// A scan's reply for C, the unsound bucket with 7, and how many entries each list got.
 #[repr(C)]
-#[derive(Clone, Copy)]
+#[derive(Clone, Copy, Debug, PartialEq, Eq)]
 pub struct ScanAnswer {
     pub reply: u32,
     pub bucket: u32,
     pub visits: u32,
     pub matches: u32,
+}
+
+impl From<Result<Counts, Fault>> for ScanAnswer {
+    ghost from_gives = { λ done answer. answer ≡ answer_of done };
+
+    fn from(done: Result<Counts, Fault>) -> ScanAnswer {
+        match done {
+            Ok(counts) => ScanAnswer {
+                reply: 0,
+                bucket: address::NO_BUCKET,
+                visits: counts.visits,
+                matches: counts.matches,
+            },
+            Err(fault) => ScanAnswer {
+                reply: fault.number(),
+                bucket: fault.region(),
+                visits: 0,
+                matches: 0,
+            },
+        }
+    }
 }
 
 // How many buckets' matches are noted when they are counted; those of the buckets past them are found again when they
@@ -36,26 +65,11 @@ const NOTES: usize = 1792;
 // As many for a file of few buckets, since they are cleared sooner.
 const FEW_NOTES: usize = 64;
 
-// Whether every bucket is sound, the lowest that is not, and how many keys match if all are.
-#[derive(Clone, Copy)]
-struct Tally {
-    sound: bool,
-    lowest: u32,
-    matches: u32,
-}
-
-// A visit's bucket number.
-fn number(visit: u16) -> u32
-    ensures { result ≡ visit }
-{
-    visit as u32
-}
-
 // Whether a key is of a lift.
 fn of_lift(key: u64, lift: u32) -> bool
     ensures { result ≡ of_lift lift key }
 {
-    key / 4294967296 == lift as u64
+    key / 4294967296 == u64::from(lift)
 }
 
 // Which keys of a sound bucket are of a lift, a bit for each, the first key's the lowest.
@@ -65,11 +79,9 @@ fn match_bits(file: &[u8], header: Header, bucket: u32, lift: u32) -> u64
     ensures { result ≡ bits_of lift (keys_in file.now bucket) }
 {
     let mut bits = 0;
-    let mut k = file::held_in(file, header, bucket);
-    while k != 0 {
-        k = k - 1;
-        bits = bits * 2
-            + bucket::chosen(of_lift(file::key_in(file, header, bucket, k), lift), 1, 0) as u64;
+    for k in (0..file::held_in(file, header, bucket)).rev() {
+        let matching = of_lift(file::key_in(file, header, bucket, k), lift);
+        bits = bits * 2 + u64::from(matching);
     }
     bits
 }
@@ -98,33 +110,24 @@ fn bits_of(file: &[u8], header: Header, bucket: u32, lift: u32, notes: &[u64]) -
     match_bits(file, header, bucket, lift)
 }
 
-// Judges the buckets in number order up to the first unsound one, notes which keys match, and counts the matches if all
-// are sound.
-fn judge_all(file: &[u8], header: Header, lift: u32, notes: &mut [u64]) -> Tally
+// Judges the buckets in number order up to the first unsound one, which is the error, notes which keys match, and counts
+// the matches if all are sound.
+fn judge_all(file: &[u8], header: Header, lift: u32, notes: &mut [u64]) -> Result<u32, u32>
     requires { Known file.now header }
-    ensures { AllJudged file.now lift result.sound result.lowest result.matches notes.new }
+    ensures sound { IfOk result (λ matches. AllJudged file.now lift true no_bucket matches notes.new) }
+    ensures unsound { IfErr result (λ lowest. AllJudged file.now lift false lowest 0 notes.new) }
 {
     let buckets = address::buckets(FIRST_BUCKETS, header.state);
     let mut matches = 0;
-    let mut bucket = 0;
-    while bucket < buckets {
+    for bucket in 0..buckets {
         if !file::bucket_sound(file, header, bucket) {
-            return Tally {
-                sound: false,
-                lowest: bucket,
-                matches: 0,
-            };
+            return Err(bucket);
         }
         let matching = match_bits(file, header, bucket, lift);
         note(notes, bucket, matching);
         matches = matches + u64::count_ones(matching);
-        bucket = bucket + 1;
     }
-    Tally {
-        sound: true,
-        lowest: address::NO_BUCKET,
-        matches,
-    }
+    Ok(matches)
 }
 
 // Of the best bucket so far and the next: the next if it is unsound and visited earlier by a client that believes in so
@@ -153,10 +156,8 @@ fn first_unsound(file: &[u8], header: Header, image: Image, lowest: u32) -> u32
         return lowest;
     }
     let mut best = lowest;
-    let mut next = lowest + 1;
-    while next < buckets {
+    for next in lowest + 1..buckets {
         best = better(file, header, believed, best, next);
-        next = next + 1;
     }
     best
 }
@@ -206,12 +207,10 @@ fn put_matches(
         ≡ edit 0 (matches_on file.now lift way.now) matches.old }
 {
     let mut filled = 0;
-    let mut k = 0;
-    while k < way.len() {
-        let bucket = number(way[k]);
+    for visit in way {
+        let bucket = u32::from(*visit);
         let bits = bits_of(file, header, bucket, lift, notes);
         filled = put_bucket(file, header, bucket, bits, matches, filled);
-        k = k + 1;
     }
 }
 
@@ -247,16 +246,31 @@ fn put_lists(
     count
 }
 
-// A refused scan's answer.
-fn refused_scan(reply: u32, bucket: u32) -> ScanAnswer
-    ensures { result ≡ refusal reply bucket }
+// The end of a scan in which every bucket is sound: 12, else both lists are written.
+fn write_lists(
+    file: &[u8],
+    header: Header,
+    image: Image,
+    lift: u32,
+    notes: &[u64],
+    found: u32,
+    visits: &mut [u16],
+    matches: &mut [u64],
+) -> Result<Counts, Fault>
+    requires { Starting file.now header image × AllJudged file.now lift true no_bucket found notes.now
+        × (buckets_of file.now ≤ length visits.old) }
+    ensures { leaving (answer_of result) visits.new matches.new
+        ≡ collected file.now lift (visits_of file.now image) visits.old
+        matches.old }
 {
-    ScanAnswer {
-        reply,
-        bucket,
-        visits: 0,
-        matches: 0,
+    if matches.len() < found as usize {
+        return Err(Fault::Plain(Refused::Matches));
     }
+    let count = put_lists(file, header, image, lift, notes, visits, matches);
+    Ok(Counts {
+        visits: count,
+        matches: found,
+    })
 }
 
 // Scans the buckets by a client's image, with room for notes: 7, 12, else both lists are written.
@@ -268,25 +282,15 @@ fn collect(
     notes: &mut [u64],
     visits: &mut [u16],
     matches: &mut [u64],
-) -> ScanAnswer
+) -> Result<Counts, Fault>
     requires { Starting file.now header image × (buckets_of file.now ≤ length visits.old) }
-    ensures { leaving result visits.new matches.new
+    ensures { leaving (answer_of result) visits.new matches.new
         ≡ collected file.now lift (visits_of file.now image) visits.old
         matches.old }
 {
-    let found = judge_all(file, header, lift, notes);
-    if !found.sound {
-        return refused_scan(7, first_unsound(file, header, image, found.lowest));
-    }
-    if matches.len() < found.matches as usize {
-        return refused_scan(12, address::NO_BUCKET);
-    }
-    let count = put_lists(file, header, image, lift, notes, visits, matches);
-    ScanAnswer {
-        reply: 0,
-        bucket: address::NO_BUCKET,
-        visits: count,
-        matches: found.matches,
+    match judge_all(file, header, lift, notes) {
+        Ok(found) => write_lists(file, header, image, lift, notes, found, visits, matches),
+        Err(lowest) => Err(Fault::Region(first_unsound(file, header, image, lowest))),
     }
 }
 
@@ -298,9 +302,9 @@ fn collect_noting(
     lift: u32,
     visits: &mut [u16],
     matches: &mut [u64],
-) -> ScanAnswer
+) -> Result<Counts, Fault>
     requires { Starting file.now header image × (buckets_of file.now ≤ length visits.old) }
-    ensures { leaving result visits.new matches.new
+    ensures { leaving (answer_of result) visits.new matches.new
         ≡ collected file.now lift (visits_of file.now image) visits.old
         matches.old }
 {
@@ -312,7 +316,7 @@ fn collect_noting(
     collect(file, header, image, lift, &mut notes, visits, matches)
 }
 
-// Scans a file for one lift through a client: 2 to 6, 11, 7, 12, else 0.
+// Scans a file for one lift through a client: 2 to 6, 11, 7, 12, else both counts.
 pub fn scan(
     file: &[u8],
     table: &[u8],
@@ -320,19 +324,15 @@ pub fn scan(
     lift: u32,
     visits: &mut [u16],
     matches: &mut [u64],
-) -> ScanAnswer
-    ensures { leaving result visits.new matches.new
+) -> Result<Counts, Fault>
+    ensures { leaving (answer_of result) visits.new matches.new
         ≡ scan file.now table.now client lift visits.old matches.old }
 {
-    let refused = route::refusal(file, table, client);
-    if refused != 0 {
-        return refused_scan(refused as u32, address::NO_BUCKET);
-    }
-    let opened = route::open(file, table, client);
+    let opened = route::open(file, table, client)?;
     let header = opened.header;
     let image = opened.image;
     if visits.len() < address::buckets(FIRST_BUCKETS, header.state) as usize {
-        return refused_scan(11, address::NO_BUCKET);
+        return Err(Fault::Plain(Refused::Visits));
     }
     collect_noting(file, header, image, lift, visits, matches)
 }

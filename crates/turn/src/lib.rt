@@ -8,6 +8,8 @@ ghost use Rattle.commands.specs.declared.Command.TheVariants.{Split, Insert, Sea
 ghost use Rattle.turn.specs.Session.{Done, ran, room_for};
 
 use commands::Command;
+use growth::SplitAnswer;
+use scan::ScanAnswer;
 
 // Splits, and writes the line.
 fn run_split(file: &mut [u8], out: &mut [u8], at: usize) -> usize
@@ -15,7 +17,7 @@ fn run_split(file: &mut [u8], out: &mut [u8], at: usize) -> usize
     ensures { (table : List ℕ) → Done (line_room 2) (ran file.old table Split) file.new table at
         out.old out.new result }
 {
-    let answer = growth::split(file);
+    let answer = SplitAnswer::from(growth::split(file));
     lines::put_split(out, at, answer.reply, answer.old_bucket, answer.new_bucket)
 }
 
@@ -34,7 +36,7 @@ fn run_insert(
 {
     let payload = [0u8; 14];
     let mut answer = [0u8; 24];
-    ride::insert(file, table, client, key, &payload, &mut answer);
+    let _ = ride::insert(file, table, client, key, &payload, &mut answer);
     lines::put_ride(out, at, b'I', &answer)
 }
 
@@ -52,7 +54,7 @@ fn run_search(
         file.now table.new at out.old out.new result }
 {
     let mut answer = [0u8; 24];
-    ride::search(file, table, client, key, &mut answer);
+    let _ = ride::search(file, table, client, key, &mut answer);
     lines::put_ride(out, at, b'S', &answer)
 }
 
@@ -64,7 +66,8 @@ fn run_scan(file: &[u8], table: &[u8], client: u64, lift: u32, out: &mut [u8], a
 {
     let mut visits = [0u16; 16];
     let mut matches = [0u64; 64];
-    let answer = scan::scan(file, table, client, lift, &mut visits, &mut matches);
+    let done = scan::scan(file, table, client, lift, &mut visits, &mut matches);
+    let answer = ScanAnswer::from(done);
     let count = answer.visits as usize;
     lines::put_scan(out, at, answer.reply, &visits[..count], answer.matches)
 }

@@ -1,22 +1,42 @@
 // The calls on a whole file but the split: create, check and view.
 #![tactic(auto)]
 
-ghost use Rattle.std.specs.Prelude.{◌≡◌, true, ◌≤◌, ◌<◌, length};
+ghost use Rattle.std.specs.Prelude.{◌≡◌, true, ◌≤◌, ◌<◌, length, IfSome, IfNone};
 ghost use Rattle.address.specs.Rules.{«at»};
 ghost use Rattle.layout.specs.Bytes.{edit};
-ghost use Rattle.file.specs.File.{Checked, Created, buckets_of, bucket_sound_in, region_sound, lowest_unsound, check};
-ghost use Rattle.file.specs.File.{view};
+ghost use Rattle.layout.specs.Replies.Refused.{given};
+ghost use Rattle.file.specs.File.{Checked, Created, buckets_of, bucket_sound_in, region_sound};
+ghost use Rattle.file.specs.File.{lowest_unsound, check, view};
 ghost use Rattle.file.specs.File.{header_bytes, created, create};
 ghost use Rattle.file.specs.File.Judge.{Known, Figures};
+ghost use Rattle.upkeep.specs.Check.{checked};
 
-use file::Header;
+use file::{Fault, Header};
+use layout::Refused;
 
-// A check's reply, and the lowest unsound region with 7.
+// A check's reply for C, and the lowest unsound region with 7.
 #[repr(C)]
-#[derive(Clone, Copy)]
+#[derive(Clone, Copy, Debug, PartialEq, Eq)]
 pub struct CheckAnswer {
     pub reply: u32,
     pub bucket: u32,
+}
+
+impl From<Result<(), Fault>> for CheckAnswer {
+    ghost from_gives = { λ done answer. record { answer = answer.reply; bucket = answer.bucket } ≡ checked done };
+
+    fn from(done: Result<(), Fault>) -> CheckAnswer {
+        match done {
+            Ok(()) => CheckAnswer {
+                reply: 0,
+                bucket: address::NO_BUCKET,
+            },
+            Err(fault) => CheckAnswer {
+                reply: fault.number(),
+                bucket: fault.region(),
+            },
+        }
+    }
 }
 
 // Whether a region of a file is sound, a bucket's or one past the last bucket.
@@ -30,43 +50,30 @@ fn region_sound(file: &[u8], header: Header, region: u32) -> bool
     file::region_zero(file, header, region)
 }
 
-// The lowest unsound region, and the number of regions if there is none.
-fn lowest_unsound(file: &[u8], header: Header) -> u32
+// The lowest unsound region, if there is one.
+fn lowest_unsound(file: &[u8], header: Header) -> Option<u32>
     requires { Known file.now header }
-    ensures { result ≡ lowest_unsound file.now }
+    ensures found { IfSome result (λ region. (region ≡ lowest_unsound file.now) × (region < header.most)) }
+    ensures none { IfNone result (header.most ≤ lowest_unsound file.now) }
 {
-    let most = header.most;
-    let mut region = 0;
-    while region < most {
+    for region in 0..header.most {
         if !region_sound(file, header, region) {
-            return region;
+            return Some(region);
         }
-        region = region + 1;
     }
-    region
+    None
 }
 
-// Checks a whole file: 5, 7 with the lowest unsound region, or 0.
-pub fn check(file: &[u8]) -> CheckAnswer
-    ensures { record { answer = result.reply; bucket = result.bucket } ≡ check file.now }
+// Checks a whole file: 5, 7 with the lowest unsound region, or sound.
+pub fn check(file: &[u8]) -> Result<(), Fault>
+    ensures { checked result ≡ check file.now }
 {
-    let header = file::header_of(file);
-    if !header.sound {
-        return CheckAnswer {
-            reply: 5,
-            bucket: address::NO_BUCKET,
-        };
-    }
-    let lowest = lowest_unsound(file, header);
-    if lowest < header.most {
-        return CheckAnswer {
-            reply: 7,
-            bucket: lowest,
-        };
-    }
-    CheckAnswer {
-        reply: 0,
-        bucket: address::NO_BUCKET,
+    let Some(header) = file::header_of(file) else {
+        return Err(Fault::Plain(Refused::Header));
+    };
+    match lowest_unsound(file, header) {
+        Some(region) => Err(Fault::Region(region)),
+        None => Ok(()),
     }
 }
 
@@ -87,17 +94,16 @@ fn used_slots(file: &[u8], header: Header, bucket: u32) -> &[u8]
 pub fn view(file: &[u8], bucket: u64) -> &[u8]
     ensures { result.now ≡ view file.now bucket }
 {
-    let header = file::header_of(file);
-    if !header.sound {
-        return &file[0..0];
-    }
+    let Some(header) = file::header_of(file) else {
+        return &file[..0];
+    };
     let buckets = address::buckets(address::FIRST_BUCKETS, header.state);
     if buckets as u64 <= bucket {
-        return &file[0..0];
+        return &file[..0];
     }
     let number = bucket as u32;
     if !file::bucket_sound(file, header, number) {
-        return &file[0..0];
+        return &file[..0];
     }
     used_slots(file, header, number)
 }
@@ -139,13 +145,13 @@ fn put_file(file: &mut [u8], capacity: u64, slots: u64, most: u64)
     division::renew(&mut file[16..end], slots as u32, 0);
 }
 
-// Makes a new file of figures that fit, or answers 13.
-pub fn create(file: &mut [u8], capacity: u64, slots: u64, most: u64) -> u8
-    ensures { record { answer = result; file = file.new } ≡ create file.old capacity slots most }
+// Makes a new file of figures that fit; others are 13.
+pub fn create(file: &mut [u8], capacity: u64, slots: u64, most: u64) -> Result<(), Refused>
+    ensures { record { answer = given result; file = file.new } ≡ create file.old capacity slots most }
 {
     if !file::figures_fit(file.len() as u64, capacity, slots, most) {
-        return 13;
+        return Err(Refused::Figures);
     }
     put_file(file, capacity, slots, most);
-    0
+    Ok(())
 }

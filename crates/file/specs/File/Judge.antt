@@ -1,6 +1,8 @@
 -- A header judged: what a sound one shows, and the ways of the functions that judge it.
 use Rattle.std.specs.Prelude.{ℕ, suc, ◌+◌, ◌-◌, ◌≤◌, ◌<◌, ◌≡◌, refl, Bool, true, false, cond, not, ◌&&◌, List, leb, ltb}
-use Rattle.std.specs.Prelude.{eqb, length, get_or}
+use Rattle.std.specs.Prelude.{eqb, length, get_or, Some, None, Option, is_some}
+use Rattle.std.specs.Bool.{then_some}
+use Rattle.std.specs.Option.{unwrap_or}
 use Rattle.std.proofs.Math.Path.{sym}
 use Rattle.std.proofs.Common.{ap, ap₂, ◌∙◌, arith, Fits}
 use Rattle.std.proofs.Math.Logic.{by_cases}
@@ -18,8 +20,7 @@ use Rattle.layout.specs.Bytes.Numbers.{zeros_behind}
 use Rattle.layout.specs.Bytes.Tests.{and_left, and_right, and_none}
 use Rattle.file.specs.declared.Header.{Header}
 use Rattle.file.specs.File.{file_mark, capacity_of, most_of, slots_of, state_of, file_length, figures_fit, buckets_of}
-use Rattle.file.specs.File.{state_fits, first_zero, fixed_bytes, figures_of, ranges_fit, header_sound, no_header}
-use Rattle.file.specs.File.{header_of}
+use Rattle.file.specs.File.{state_fits, first_zero, fixed_bytes, figures_of, ranges_fit, header_sound, header_of}
 
 -- spans above the highest level are past every limit
 span_high : (k : ℕ) → most_level < k → most_buckets < span first_buckets k
@@ -168,11 +169,11 @@ header_ranges file h =
     }
 
 -- the header that is read, by its cases
-pub header_unsound : (file : List ℕ) → header_sound file ≡ false → no_header ≡ header_of file
+pub header_unsound : (file : List ℕ) → header_sound file ≡ false → None ≡ header_of file
 unfolding header_of
 header_unsound file h = rw h
 
-pub header_sound_lem : (file : List ℕ) → header_sound file ≡ true → header_of file ≡ figures_of file
+pub header_sound_lem : (file : List ℕ) → header_sound file ≡ true → header_of file ≡ Some (figures_of file)
 unfolding header_of
 header_sound_lem file h = rw h
 
@@ -180,7 +181,6 @@ header_sound_lem file h = rw h
 
 -- the figures that are read, one by one
 pub record FiguresOf (file : List ℕ) (header : Header) : Type 0 where
-  pub sound : header.sound ≡ true
   pub level : header.state.level ≡ byte_at file 2
   pub pointer : header.state.pointer ≡ le_at 2 file 4
   pub capacity : header.capacity ≡ capacity_of file
@@ -191,7 +191,6 @@ pub record FiguresOf (file : List ℕ) (header : Header) : Type 0 where
 pub figures_of_lem : (file : List ℕ) (header : Header) → FiguresOf file header → header ≡ figures_of file
 unfolding state_of
 figures_of_lem file header read = λ i. record {
-  sound = read.sound i;
   state = record { level = read.level i; pointer = read.pointer i };
   capacity = read.capacity i;
   slots = read.slots i;
@@ -219,14 +218,13 @@ module _ (long : ℕ) (header : Header) {fits : Bool}
   ranges_state h es = rw (sym ef ∙ not-false fits h) es
 
 module _ (file : List ℕ) where
-  pub header_short : {none : Header} → none ≡ no_header → length file < 16 → none ≡ header_of file
+  pub header_short : length file < 16 → None ≡ header_of file
   unfolding header_sound
-  header_short e h = e ∙ header_unsound file (rw (lt-leb 16 (length file) h))
+  header_short h = header_unsound file (rw (lt-leb 16 (length file) h))
 
-  pub header_unfixed : {none : Header} → none ≡ no_header → {fixed : Bool} → fixed ≡ fixed_bytes file → not fixed ≡ true
-      → none ≡ header_of file
+  pub header_unfixed : {fixed : Bool} → fixed ≡ fixed_bytes file → not fixed ≡ true → None ≡ header_of file
   unfolding header_sound
-  header_unfixed e {fixed} ef h = e ∙ header_unsound file
+  header_unfixed {fixed} ef h = header_unsound file
       (rw (and_none (leb 16 (length file)) (fixed_bytes file) (sym ef ∙ not-true fixed h)))
 
   module _ {header : Header} (read : FiguresOf file header) {fits : Bool}
@@ -234,14 +232,14 @@ module _ (file : List ℕ) where
     judged : fits ≡ ranges_fit (length file) (figures_of file)
     judged = er ∙ ap (ranges_fit (length file)) (figures_of_lem file header read)
 
-    pub header_unranged : {none : Header} → none ≡ no_header → not fits ≡ true → none ≡ header_of file
+    pub header_unranged : not fits ≡ true → None ≡ header_of file
     unfolding header_sound
-    header_unranged e h = e ∙ header_unsound file
+    header_unranged h = header_unsound file
         (and_none (leb 16 (length file) && fixed_bytes file) _ (sym judged ∙ not-true fits h))
 
     pub header_judged : 16 ≤ length file → {fixed : Bool} → fixed ≡ fixed_bytes file → not fixed ≡ false
-        → not fits ≡ false → header ≡ header_of file
-    header_judged long {fixed} ef right h = figures_of_lem file header read ∙ sym
+        → not fits ≡ false → Some header ≡ header_of file
+    header_judged long {fixed} ef right h = ap Some (figures_of_lem file header read) ∙ sym
         (header_sound_lem file
         (header_back file long (sym ef ∙ not-false fixed right) (sym judged ∙ not-false fits h)))
 
@@ -265,18 +263,19 @@ pub existing : (file : List ℕ) → buckets_of file ≡ buckets first_buckets (
 unfolding buckets_of
 existing file = refl
 
-pub header_flag : (file : List ℕ) → (header_of file).sound ≡ header_sound file
+pub header_flag : (file : List ℕ) → is_some (header_of file) ≡ header_sound file
 unfolding header_of
 header_flag file = go (header_sound file)
   where
-    go : (flag : Bool) → (cond {A = Header} flag (figures_of file) no_header).sound ≡ flag
+    go : (flag : Bool) → is_some (then_some flag (figures_of file)) ≡ flag
     go true = refl
     go false = refl
 
-pub known : (file : List ℕ) (header : Header) → header ≡ header_of file → header.sound ≡ true → Known file header
-known file header e h =
-    let sound : header_sound file ≡ true = sym (header_flag file) ∙ ap (λ (x : Header). x.sound) (sym e) ∙ h in
-    let is = e ∙ header_sound_lem file sound in
+pub known : (file : List ℕ) (header : Header) → Some header ≡ header_of file → Known file header
+known file header e =
+    let sound : header_sound file ≡ true = sym (header_flag file) ∙ sym (ap is_some e) in
+    let is : header ≡ figures_of file = ap (λ (found : Option Header). unwrap_or found (figures_of file))
+    (e ∙ header_sound_lem file sound) in
     let state : header.state ≡ state_of file = ap (λ (x : Header). x.state) is in
     let seen = header_ranges file sound in
     record {
@@ -302,22 +301,8 @@ known file header e h =
 pub known_read : (file : List ℕ) {header : Header} → header_sound file ≡ true → FiguresOf file header
     → Known file header
 known_read file {header} sound read = known file header
-    (figures_of_lem file header read ∙ sym (header_sound_lem file sound))
-    read.sound
+    (ap Some (figures_of_lem file header read) ∙ sym (header_sound_lem file sound))
 
--- the same from the test that the flag has passed, or not
-pub known_passed : (file : List ℕ) (header : Header) → header ≡ header_of file → not header.sound ≡ false
-    → Known file header
-known_passed file header e h = known file header e (not-false header.sound h)
-
-pub room_passed : (file : List ℕ) (header : Header) → header ≡ header_of file → not header.sound ≡ false
-    → ImageRoom first_buckets header.state
-room_passed file header e h = (known_passed file header e h).room
-
-pub unknown : (file : List ℕ) (header : Header) → header ≡ header_of file → header.sound ≡ false
-    → header_sound file ≡ false
-unknown file header e h = sym (header_flag file) ∙ ap (λ (x : Header). x.sound) (sym e) ∙ h
-
-pub unknown_failed : (file : List ℕ) (header : Header) → header ≡ header_of file → not header.sound ≡ true
-    → header_sound file ≡ false
-unknown_failed file header e h = unknown file header e (not-true header.sound h)
+-- and of a file in which no header was found
+pub unknown : (file : List ℕ) → None ≡ header_of file → header_sound file ≡ false
+unknown file e = sym (header_flag file) ∙ sym (ap is_some e)

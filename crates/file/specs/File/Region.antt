@@ -1,7 +1,7 @@
 -- Where the regions lie: within the file, one behind the other; how each is judged, and what check and view say of
 -- them.
 use Rattle.std.specs.Prelude.{ℕ, ◌+◌, ◌*◌, ◌-◌, ◌≤◌, ◌<◌, ◌≡◌, refl, Bool, true, false, cond, ◌&&◌, List, [], ◌∷◌, ltb}
-use Rattle.std.specs.Prelude.{eqb, length, drop}
+use Rattle.std.specs.Prelude.{eqb, length, drop, Some, None}
 use Rattle.std.proofs.Math.Path.{sym, ap, ap₂}
 use Rattle.std.proofs.Common.{◌∙◌, mul-le-mul, mul-le-mul_right}
 use Rattle.std.proofs.Math.Bool.{not}
@@ -24,7 +24,7 @@ use Rattle.file.specs.declared.Header.{Header}
 use Rattle.file.specs.File.{most_of, slots_of, state_of, start_of, file_length, buckets_of, region_of, header_sound}
 use Rattle.file.specs.File.{header_of}
 use Rattle.file.specs.File.{bucket_sound_in, region_sound, file_sound, Checked, lowest_unsound, check, view}
-use Rattle.file.specs.File.Judge.{Ranges, Known, header_ranges, known_passed, unknown_failed}
+use Rattle.file.specs.File.Judge.{Ranges, Known, header_ranges, known, unknown}
 
 -- the machine's room for a place
 pub place_room : (S a : ℕ) → S ≤ most_slots → a ≤ most_buckets → a * (8 + 24 * S) ≤ most_buckets * (8 + 24 * most_slots)
@@ -217,14 +217,15 @@ module _ (file : List ℕ) where
 
 -- ---- check, by its cases
 
-module _ (file : List ℕ) {header : Header} (read : header ≡ header_of file) where
-  pub check_header : not header.sound ≡ true → record { answer = 5; bucket = no_bucket } ≡ check file
+module _ (file : List ℕ) where
+  pub check_header : None ≡ header_of file → record { answer = 5; bucket = no_bucket } ≡ check file
   unfolding check
-  check_header h = rw (unknown_failed file header read h)
+  check_header e = rw (unknown file e)
 
-  module _ (passed : not header.sound ≡ false) {lowest : ℕ} (least : lowest ≡ lowest_unsound file) where
+  module _ {header : Header} (read : Some header ≡ header_of file) {lowest : ℕ}
+      (least : lowest ≡ lowest_unsound file) where
     seen : Known file header
-    seen = known_passed file header read passed
+    seen = known file header read
 
     pub check_region : lowest < header.most → record { answer = 7; bucket = lowest } ≡ check file
     unfolding check
@@ -271,13 +272,14 @@ unfolding view
 view_unsound file a h l u = rw (h, lt-ltb a (buckets_of file) l, u)
 
 -- the same of a header that was read, and of a number and a bucket judged by it
-module _ (file : List ℕ) (a : ℕ) {header : Header} (read : header ≡ header_of file) where
-  pub view_headless : not header.sound ≡ true → [] ≡ view file a
-  view_headless h = view_header file a (unknown_failed file header read h)
+module _ (file : List ℕ) (a : ℕ) where
+  pub view_headless : None ≡ header_of file → [] ≡ view file a
+  view_headless e = view_header file a (unknown file e)
 
-  module _ (passed : not header.sound ≡ false) {n : ℕ} (en : n ≡ buckets first_buckets header.state) where
+  module _ {header : Header} (read : Some header ≡ header_of file) {n : ℕ}
+      (en : n ≡ buckets first_buckets header.state) where
     good : Known file header
-    good = known_passed file header read passed
+    good = known file header read
 
     pub view_past : n ≤ a → [] ≡ view file a
     view_past h = view_high file a good.sound (omega (arith, buckets_known file header good n en))

@@ -1,7 +1,7 @@
 -- A split: the rides that move are just those that belong to the new bucket, and the writes in turn are the divided
 -- file.
 use Prim.Native.Nat.{ℕ, suc, ◌+◌, ◌≤◌, ◌<◌}
-use Rattle.std.specs.Prelude.{◌≡◌, refl, Bool, true, false, cond, not, ◌⊎◌, leb, eqb, length}
+use Rattle.std.specs.Prelude.{◌≡◌, refl, Bool, true, false, cond, not, ◌⊎◌, leb, eqb, length, None}
 use Rattle.std.proofs.Common.{sym, subst, ◌∙◌, inl, inr, ⊎_elim, arith}
 use Rattle.std.proofs.Math.Path.{ap, ap₂}
 use mathlib.Core.List.{List, [], ◌∷◌}
@@ -26,7 +26,7 @@ use Rattle.bucket.specs.Region.Keep.{kept_agree}
 use Rattle.file.specs.declared.Header.{Header}
 use Rattle.file.specs.File.{most_of, slots_of, state_of, buckets_of, header_sound, start_of, region_of, bucket_sound_in}
 use Rattle.file.specs.File.{with_region, with_state, staying, divided, SplitOutcome, split, header_of}
-use Rattle.file.specs.File.Judge.{Known, buckets_of_lem, state_small, unknown_failed}
+use Rattle.file.specs.File.Judge.{Known, buckets_of_lem, state_small, unknown}
 use Rattle.file.specs.File.Region.{region_is, region_apart, region_fits, buckets_known}
 use Rattle.file.specs.File.Write.{with_slots, Shown, shown}
 
@@ -336,12 +336,12 @@ as_outcome : {r o n x y z : ℕ} {file after : List ℕ} → r ≡ x → o ≡ y
     (record { answer = x; old = y; new = z; file = file })
 as_outcome er eo en ef = λ i. record { answer = er i; old = eo i; new = en i; file = ef i }
 
-module _ (file : List ℕ) {header : Header} where
-  pub split_headless : header ≡ header_of file → not header.sound ≡ true → {r o n : ℕ} → r ≡ 5 → o ≡ no_bucket
-      → n ≡ no_bucket
+module _ (file : List ℕ) where
+  pub split_headless : None ≡ header_of file → {r o n : ℕ} → r ≡ 5 → o ≡ no_bucket → n ≡ no_bucket
       → record { answer = r; old = o; new = n; file = file } ≡ split file
-  split_headless e h er eo en = as_outcome er eo en refl ∙ split_header file (unknown_failed file header e h)
+  split_headless e er eo en = as_outcome er eo en refl ∙ split_header file (unknown file e)
 
+module _ (file : List ℕ) {header : Header} where
   module _ (seen : Known file header) where
     pub split_full : {m : ℕ} → m ≡ buckets first_buckets header.state → header.most ≤ m → {r o n : ℕ} → r ≡ 10
         → o ≡ no_bucket → n ≡ no_bucket

@@ -69,7 +69,6 @@ module _ (file other : List ℕ) (long : length other ≡ length file)
 
       figures : figures_of other ≡ figures_of file
       figures = λ i. record {
-        sound = true;
         state = header_state i;
         capacity = header_capacity i;
         slots = header_slots i;
@@ -244,14 +243,12 @@ module _ (file : List ℕ) (state : Image) (headed : 16 ≤ length file) (low : 
           (ap all_zero (state_part first_zero (16 - first_zero) (omega arith) (omega arith)))
 
       figures : figures_of written ≡ record {
-        sound = true;
         state = state;
         capacity = capacity_of file;
         slots = slots_of file;
         most = most_of file;
       }
       figures = λ i. record {
-        sound = true;
         state = state_back_again i;
         capacity = state_three i;
         slots = state_slots i;

@@ -3,10 +3,14 @@ use Prim.Native.Nat.{◌≤◌}
 use native.Mathlib.Omega.{arith}
 use Rattle.address.specs.Limits.{most_buckets}
 use Rattle.lhstar.specs.View.{empty_start, empty_length, view_start_lem, view_length_lem, viewed_slots, viewed_bucket}
+use Rattle.lhstar.specs.View.{viewed_long}
 use Rattle.lhstar.proofs.lhstar_view.Goals as goal
 
 pub returns-then-length-eq0 : goal.returns-then-length-eq0
 returns-then-length-eq0 c = (search empty_start, search empty_length)
+
+pub figures-header-requires : goal.figures-header-requires
+figures-header-requires c = search viewed_long
 
 pub overflow_cast-bucket : goal.overflow_cast-bucket
 overflow_cast-bucket c = let viewed : c.args.bucket ≤ most_buckets = search viewed_bucket in

@@ -4,14 +4,14 @@ use Rattle.load.specs.Load.Regions.{roomy, regions_passed}
 use Rattle.std.proofs.Common.{rules}
 use Rattle.load.proofs.accept.Goals as goal
 
-pub judge_plan-regions-requires : goal.judge_plan-regions-requires
-judge_plan-regions-requires c = (search rules, search roomy, search rules)
+pub judge_plan-requires : goal.judge_plan-requires
+judge_plan-requires c = (search rules, search roomy, search rules)
 
-pub returns-in-Unsound : goal.returns-in-Unsound
-returns-in-Unsound c = search load_unsound
+pub returns-in-Err : goal.returns-in-Err
+returns-in-Err c = search (load_unsound, c.in-Err.is)
 
 pub commit-requires : goal.commit-requires
 commit-requires c = (search, search, search, search, search, search roomy, search regions_passed)
 
-pub returns-in-Sound : goal.returns-in-Sound
-returns-in-Sound c = search load_decided
+pub returns-in-Ok : goal.returns-in-Ok
+returns-in-Ok c = search load_decided

@@ -26,11 +26,10 @@ use Rattle.ride.specs.Call.Replied.{count_is, inserted_is, placed_done, insert_h
 use Rattle.ride.proofs.Call.Replied.{insert_done}
 use Rattle.load.specs.declared.Control.{Control}
 use Rattle.load.specs.declared.Control.TheVariants.{NotDue, Done, NoRoom}
-use Rattle.load.specs.declared.Regions.{Regions}
-use Rattle.load.specs.declared.Regions.TheVariants.{Sound, Unsound}
 use Rattle.load.specs.Load.{decision, decision_on, Loaded, alone, together, decided, controlled}
 use Rattle.load.specs.Load.Decision.{room_on}
-use Rattle.load.specs.Load.Regions.{regions_of, sound_regions, split_sound_done, split_unsound_at}
+use Rattle.load.specs.Load.Regions.{Regions, Sound, Unsound, regions_of, sound_regions, split_sound_done}
+use Rattle.load.specs.Load.Regions.{split_unsound_at}
 use Rattle.load.specs.Load.Regions.{inserted_regions, regions_for, sound_done, unsound_done, Roomy}
 
 -- an answer with what is left is an outcome

@@ -1,6 +1,6 @@
 -- The regions of a split: judged, and judged alike before an accepted insert and after it; and those of what is
 -- decided.
-use Rattle.std.specs.Prelude.{ℕ, ◌<◌, ◌≡◌, refl, Bool, true, false, cond, not, List}
+use Rattle.std.specs.Prelude.{ℕ, ◌<◌, ◌≡◌, refl, Bool, true, false, cond, not, List, Result, Ok, Err}
 use Rattle.std.proofs.Math.Path.{sym}
 use Rattle.std.proofs.Common.{ap, ap₂, ◌∙◌, arith}
 use borrow.Author.Tests.{not-true, not-false}
@@ -22,10 +22,18 @@ use Rattle.ride.specs.Call.{inserted}
 use Rattle.ride.specs.Call.Placing.{inserted_header, inserted_state, inserted_room, inserted_bucket, inserted_zero}
 use Rattle.load.specs.declared.Control.{Control}
 use Rattle.load.specs.declared.Control.TheVariants.{NotDue, Done, NoRoom}
-use Rattle.load.specs.declared.Regions.{Regions}
-use Rattle.load.specs.declared.Regions.TheVariants.{Sound, Unsound}
 use Rattle.load.specs.Load.{decision}
 use Rattle.load.specs.Load.Decision.{decision_room}
+
+-- The regions of a split: both sound, or the first that is not.
+abbrev pub Regions : Type 0
+Regions = Result (Unit {0}) ℕ
+
+abbrev pub Sound : Regions
+Sound = Ok tt
+
+abbrev pub Unsound : ℕ → Regions
+Unsound a = Err a
 
 -- bucket n, then the region of the new bucket
 pub regions_of : List ℕ → Regions

@@ -5,10 +5,10 @@ use Rattle.ride.proofs.Call.Replied.{insert_done}
 use Rattle.ride.proofs.finish_insert.Goals as goal
 
 pub returns-then-held : goal.returns-then-held
-returns-then-held c = search insert_held
+returns-then-held c = rw c.refuse.ensures.0 (search insert_held)
 
 pub returns-then-full : goal.returns-then-full
-returns-then-full c = search insert_full
+returns-then-full c = rw c.refuse-then-full.ensures.0 (search insert_full)
 
 pub put_placed-requires : goal.put_placed-requires
 put_placed-requires c = (search, search, search, search, search, search, search, search leb-false)

@@ -1,8 +1,9 @@
 -- `route::walk_route`: what is noted and what is still to come are the route from the first bucket; each bucket keeps
 -- the key, sends it on or is unsound.
 use Rattle.std.proofs.Common.{rules}
-use Rattle.route.specs.Way.Route.{behind_room, level_room, walk_starts, walk_there, walk_keeps}
-use Rattle.route.specs.Way.Route.{walk_stops, walk_sends, walk_short, walked_way}
+use Rattle.route.specs.Way.{way_of}
+use Rattle.route.specs.Way.Route.{Walked, behind_room, level_room, walk_starts, walk_there, walk_keeps}
+use Rattle.route.specs.Way.Route.{walk_stops, walk_sends, walk_short, walked_way, stopped_any}
 use Rattle.file.specs.File.Region.{known_standing}
 use Rattle.route.proofs.walk_route.Goals as goal
 
@@ -25,4 +26,7 @@ pub loop-next-preserved : goal.loop-next-preserved
 loop-next-preserved c = (search walk_short, search walk_sends)
 
 pub returns-in-Unsound : goal.returns-in-Unsound
-returns-in-Unsound c = search (walked_way, walk_stops)
+returns-in-Unsound c = let a = c.args in
+    let stopped : Walked a.file.now a.key (way_of a.file.now a.image a.key) c.note-walk.result c.loop-next.bucket 0 7 =
+    search (walked_way, walk_stops) in
+    record { reached = tt; stopped = stopped_any stopped }

@@ -1,9 +1,9 @@
 -- The refusals before any route, by their cases, and what is known of a call that passes them.
-use Rattle.std.specs.Prelude.{ℕ, ◌+◌, ◌*◌, ◌≤◌, ◌≡◌, refl, Bool, true, false, cond, List, ltb, eqb, length}
+use Rattle.std.specs.Prelude.{ℕ, ◌+◌, ◌*◌, ◌≤◌, ◌≡◌, refl, Bool, true, false, cond, List, ltb, eqb, length, Some, None}
 use Rattle.std.proofs.Math.Path.{sym, ap}
 use Rattle.std.proofs.Common.{ap₂, ◌∙◌, arith}
 use Rattle.std.proofs.Math.Bool.{not}
-use borrow.Author.Tests.{le-ltb, ltb-false, not-true, not-false}
+use borrow.Author.Tests.{le-ltb, ltb-false, not-false}
 use Rattle.address.specs.Limits.{first_buckets, most_level}
 use Rattle.address.specs.declared.Image.{Image}
 use Rattle.address.specs.Room.{ImageRoom}
@@ -13,7 +13,7 @@ use Rattle.client.specs.Table.{image_of, record_sound, table_refusals, caller_re
 use Rattle.client.specs.Table.Caller.{caller_numbers, caller_numbered, caller_passes, caller_passed, calling}
 use Rattle.layout.specs.Replies.Passing.{passes_append, passes_split, passes_on, passes_back, refused_on}
 use Rattle.file.specs.File.{buckets_of, state_of, header_sound, header_of}
-use Rattle.file.specs.File.Judge.{FiguresOf, Known, known, known_read, unknown, existing, header_parts}
+use Rattle.file.specs.File.Judge.{Known, known, unknown, existing, header_parts}
 use Rattle.file.specs.File.Region.{buckets_known}
 use Rattle.file.specs.declared.Header.{Header}
 use Rattle.route.specs.Way.{early}
@@ -90,14 +90,14 @@ module _ (file table : List ℕ) (client : ℕ) (none : reply (early file table 
   pub open_there : 8 * client + 8 ≤ length table
   open_there = (calling table client not_refused refl).there
 
-  pub opening : {header : Header} {image : Image} → FiguresOf file header → image ≡ image_of table client
+  pub opening : {header : Header} {image : Image} → Known file header → image ≡ image_of table client
       → Opening file table client header image
-  opening read e =
+  opening seen e =
       let caller = calling table client not_refused e in
       let passed = early_passes file table client none in
       record {
         passed = none;
-        known = known_read file passed.2 read;
+        known = seen;
         there = caller.there;
         recorded = caller.recorded;
         is = e;
@@ -122,31 +122,33 @@ module _ (file table : List ℕ) (client : ℕ) {r : ℕ} (er : r ≡ reply (cal
     behind_caller = early_reply file table client ∙ passes_on (caller_refusals table client)
         (passes_back (caller_refusals table client) (caller_numbered table client) (sym er ∙ none)) _
 
-    module _ {header : Header} (eh : header ≡ header_of file) where
-      pub refusal_header : not header.sound ≡ true → 5 ≡ reply (early file table client) 0
-      refusal_header h = sym (behind_caller ∙ rw (unknown file header eh (not-true _ h)))
+    pub refusal_header : None ≡ header_of file → 5 ≡ reply (early file table client) 0
+    refusal_header e = sym (behind_caller ∙ rw (unknown file e))
 
-      module _ (fine : not header.sound ≡ false) where
-        seen : Known file header
-        seen = known file header eh (not-false _ fine)
+    module _ {header : Header} (eh : Some header ≡ header_of file) where
+      seen : Known file header
+      seen = known file header eh
 
-        pub refusal_state : ImageRoom first_buckets header.state
-        refusal_state = seen.room
+      pub refusal_state : ImageRoom first_buckets header.state
+      refusal_state = seen.room
 
-        module _ {image : Image} (ei : image ≡ image_of table client) where
-          pub refusal_image : ImageRoom first_buckets image
-          refusal_image = (calling table client (sym er ∙ none) ei).room
+      module _ {image : Image} (ei : image ≡ image_of table client) where
+        pub refusal_image : ImageRoom first_buckets image
+        refusal_image = (calling table client (sym er ∙ none) ei).room
 
-          module _ {all believed : ℕ} (ea : all ≡ buckets first_buckets header.state)
-              (eb : believed ≡ buckets first_buckets image) where
-            behind_header : {b : Bool} → ltb all believed ≡ b → reply (early file table client) 0 ≡ cond b 6 0
-            behind_header h = behind_caller ∙ rw (seen.sound, ahead ∙ h)
-              where
-                ahead : ltb (buckets_of file) (buckets first_buckets (image_of table client)) ≡ ltb all believed
-                ahead = sym (ap₂ ltb (buckets_known file header seen all ea) (eb ∙ ap (buckets first_buckets) ei))
+        module _ {all believed : ℕ} (ea : all ≡ buckets first_buckets header.state)
+            (eb : believed ≡ buckets first_buckets image) where
+          behind_header : {b : Bool} → ltb all believed ≡ b → reply (early file table client) 0 ≡ cond b 6 0
+          behind_header h = behind_caller ∙ rw (seen.sound, ahead ∙ h)
+            where
+              ahead : ltb (buckets_of file) (buckets first_buckets (image_of table client)) ≡ ltb all believed
+              ahead = sym (ap₂ ltb (buckets_known file header seen all ea) (eb ∙ ap (buckets first_buckets) ei))
 
-            pub refusal_ahead : ltb all believed ≡ true → 6 ≡ reply (early file table client) 0
-            refusal_ahead h = sym (behind_header h)
+          pub refusal_ahead : ltb all believed ≡ true → 6 ≡ reply (early file table client) 0
+          refusal_ahead h = sym (behind_header h)
 
-            pub refusal_none : ltb all believed ≡ false → 0 ≡ reply (early file table client) 0
-            refusal_none h = sym (behind_header h)
+          pub refusal_none : ltb all believed ≡ false → 0 ≡ reply (early file table client) 0
+          refusal_none h = sym (behind_header h)
+
+          pub refusal_opens : ltb all believed ≡ false → Opening file table client header image
+          refusal_opens h = opening file table client (behind_header h) seen ei

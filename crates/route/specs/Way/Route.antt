@@ -300,3 +300,8 @@ pub walked_way : {file : List ℕ} {key start : ℕ} {walk : Walk} {a place r : 
     → Walked file key (way_of file image key) walk a place r
 walked_way {file} {key} {start} {walk} {a} {place} {r} image es =
     subst (λ (way : List ℕ). Walked file key way walk a place r) (way_is file image key start es)
+
+-- a walk that stopped says nothing of a bucket and a place
+pub stopped_any : {file : List ℕ} {key : ℕ} {way : List ℕ} {walk : Walk} {a place : ℕ}
+    → Walked file key way walk a place 7 → {b k : ℕ} → Walked file key way walk b k 7
+stopped_any w = record { few = w.few; is = w.is; met = w.met; ended = λ e. absurd (omega (arith, e)) }

@@ -14,9 +14,6 @@ buckets-believed-requires c = search starting_image_room
 pub returns-then-lowest-believed : goal.returns-then-lowest-believed
 returns-then-lowest-believed c = search lowest_first
 
-pub overflow_add-next : goal.overflow_add-next
-overflow_add-next c = record { fits = search lowest_room }
-
 pub loop-next-init : goal.loop-next-init
 loop-next-init c = search searching_start
 

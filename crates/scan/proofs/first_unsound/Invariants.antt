@@ -6,6 +6,3 @@ use Rattle.scan.proofs.first_unsound.Given as goal
 
 abbrev pub invariant-loop-next : goal.invariant-loop-next
 invariant-loop-next l = Searching l.file l.believed l.lowest l.best l.next
-
-abbrev pub decreases-loop-next : goal.decreases-loop-next
-decreases-loop-next l = l.buckets - l.next

@@ -9,6 +9,3 @@ use Rattle.scan.proofs.judge_all.Given as goal
 abbrev pub invariant-loop-bucket : goal.invariant-loop-bucket
 invariant-loop-bucket l = (length l.notes ≡ length l.initial.notes)
     × Tallied l.file l.lift l.bucket l.matches l.notes
-
-abbrev pub decreases-loop-bucket : goal.decreases-loop-bucket
-decreases-loop-bucket l = l.buckets - l.bucket

@@ -3,4 +3,4 @@ use Rattle.scan.specs.Scan.Tally.{lift_is}
 use Rattle.scan.proofs.of_lift.Goals as goal
 
 pub returns : goal.returns
-returns c = lift_is c.args.lift c.args.key
+returns c = rw c.from.ensures (lift_is c.args.lift c.args.key)

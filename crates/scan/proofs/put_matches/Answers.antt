@@ -6,8 +6,8 @@ use Rattle.scan.specs.Scan.Notes.{noted_sound}
 use Rattle.scan.specs.Scan.Way.{way_exists}
 use Rattle.scan.proofs.put_matches.Goals as goal
 
-pub loop-k-init : goal.loop-k-init
-loop-k-init c = search write_none
+pub loop-visit-init : goal.loop-visit-init
+loop-visit-init c = search write_none
 
 pub bits_of-bits-requires : goal.bits_of-bits-requires
 bits_of-bits-requires c = (search rules, search way_exists, search rules)
@@ -16,8 +16,8 @@ pub put_bucket-filled-requires : goal.put_bucket-filled-requires
 put_bucket-filled-requires c =
     (search rules, search way_exists, search (noted_sound, way_exists), search write_few, search write_room)
 
-pub loop-k-preserved : goal.loop-k-preserved
-loop-k-preserved c = search write_more
+pub loop-visit-preserved : goal.loop-visit-preserved
+loop-visit-preserved c = search write_more
 
 pub returns : goal.returns
 returns c = search write_done

@@ -6,6 +6,7 @@ use Rattle.std.proofs.Math.Path.{sym}
 use Rattle.std.proofs.Common.{ap, ◌∙◌, pow-suc, div-one, length-drop, pow_mono}
 use Rattle.std.proofs.Math.Nat.{pow-succ', div-div-eq-div-mul}
 use native.Mathlib.Omega.{arith}
+use mir.Val.{bool_byte}
 use Rattle.std.specs.Int.Count.{ones, ones_step, count_trailing_zeros, under}
 use Rattle.address.specs.Limits.{most_slots}
 use Rattle.scan.specs.Scan.{of_lift, matching}
@@ -141,3 +142,12 @@ next (suc d) bits (key ∷ keys) short some few = go (bits % 2) refl
         }
     go (suc zero) e later = record { within = omega arith; is = rw (e, div-one bits); few = rw (div-one bits) half }
     go (suc (suc r)) e later = absurd (omega arith)
+
+-- a test as a number
+pub bit_is : (b : Bool) → bool_byte b ≡ cond b 1 0
+bit_is true = refl
+bit_is false = refl
+
+pub bit_few : (b : Bool) → bool_byte b ≤ 1
+bit_few true = omega arith
+bit_few false = omega arith

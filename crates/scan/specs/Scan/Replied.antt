@@ -1,7 +1,7 @@
 -- A scan's outcome by its cases, in the replies' order, each also by what the code has found out until then; and no
 -- second outcome fits.
 use Prim.Native.Nat.{ℕ, ◌≤◌, ◌<◌}
-use Rattle.std.specs.Prelude.{◌≡◌, refl, Bool, true, false, cond, not, List, [], ◌∷◌, ◌++◌, ltb, eqb, length}
+use Rattle.std.specs.Prelude.{◌≡◌, refl, Bool, true, false, cond, not, List, [], ◌∷◌, ◌++◌, ltb, eqb, length, Result}
 use Rattle.std.proofs.Math.Path.{sym, ap}
 use Rattle.std.proofs.Common.{◌∙◌, arith}
 use borrow.Author.Tests.{eq-eqb, ne_eqb, lt-ltb, le-ltb, not-true, not-false}
@@ -17,13 +17,15 @@ use Rattle.file.specs.File.Region.{buckets_known}
 use Rattle.file.specs.declared.Header.{Header}
 use Rattle.route.specs.Way.{early}
 use Rattle.route.specs.Way.Open.{Opening, early_else}
+use Rattle.file.specs.declared.fault.Fault.{Fault}
+use Rattle.scan.specs.declared.Counts.{Counts}
 use Rattle.scan.specs.declared.ScanAnswer.{ScanAnswer}
 use Rattle.scan.specs.Scan.Notes.{Noted}
 use Rattle.scan.specs.Scan.Tally.{AllJudged, matches_all}
 use Rattle.scan.specs.Scan.Unsound.{Lowest, lowest_visited}
 use Rattle.scan.specs.Scan.Way.{Starting, starting_sound}
 use Rattle.scan.specs.Scan.{Scanned, leaving, matches_on, visits_of, first_unsound, refusal, refused, collected}
-use Rattle.scan.specs.Scan.{scan}
+use Rattle.scan.specs.Scan.{answer_of, scan}
 
 -- the answer of a scan that is not refused
 abbrev pub acceptance : ℕ → ℕ → ScanAnswer
@@ -177,3 +179,9 @@ module _ {file table : List ℕ} {client : ℕ} {header : Header} {image : Image
       → left ≡ scan file table client lift visits matches
   opened_long long el = scan_long file table client lift visits matches o.passed (omega (arith, exist)) image el
       o.is
+
+-- the same by the answer for C
+pub scan_answered : (done : Result Counts Fault) {answer : ScanAnswer} {visits matches : List ℕ} {o : Scanned}
+    → answer ≡ answer_of done → leaving (answer_of done) visits matches ≡ o → leaving answer visits matches ≡ o
+scan_answered done {visits = visits} {matches = matches} ea e =
+    ap (λ (r : ScanAnswer). leaving r visits matches) ea ∙ e

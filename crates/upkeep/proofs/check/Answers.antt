@@ -1,16 +1,16 @@
--- `upkeep::check` judges the header and then each region: 5, 7 with the lowest unsound one, or 0.
-use Rattle.file.specs.File.Judge.{known_passed}
+-- `upkeep::check` judges the header and then each region: 5, 7 with the lowest unsound one, or sound.
+use Rattle.file.specs.File.Judge.{known}
 use Rattle.file.specs.File.Region.{check_header, check_region, check_none}
 use Rattle.upkeep.proofs.check.Goals as goal
 
-pub returns-then-not-header : goal.returns-then-not-header
-returns-then-not-header c = search check_header
+pub returns-in_default : goal.returns-in_default
+returns-in_default c = search (check_header, c.in_default.ensures)
 
-pub lowest_unsound-lowest-requires : goal.lowest_unsound-lowest-requires
-lowest_unsound-lowest-requires c = search known_passed
+pub lowest_unsound-requires : goal.lowest_unsound-requires
+lowest_unsound-requires c = search (known, c.in-Some.ensures)
 
-pub returns-then-lowest-header : goal.returns-then-lowest-header
-returns-then-lowest-header c = search check_region
+pub returns-in-Some-lowest_unsound : goal.returns-in-Some-lowest_unsound
+returns-in-Some-lowest_unsound c = search (check_region, c.in-Some.ensures, c.in-Some-lowest_unsound.ensures)
 
-pub returns : goal.returns
-returns c = search check_none
+pub returns-in-None : goal.returns-in-None
+returns-in-None c = search (check_none, c.in-Some.ensures, c.in-None.ensures)

@@ -1,16 +1,17 @@
 -- `upkeep::lowest_unsound`: the lowest unsound region from here on is the lowest of all.
-use Rattle.file.specs.File.Region.{lower_none, lower_here, lower_more, lower_end}
+use native.Mathlib.Omega.{arith}
 use Rattle.std.proofs.Common.{rules}
+use Rattle.file.specs.File.Region.{lower_none, lower_here, lower_more, lower_end}
 use Rattle.upkeep.proofs.lowest_unsound.Goals as goal
 
 pub loop-region-init : goal.loop-region-init
-loop-region-init c = (search rules, search lower_none)
+loop-region-init c = search lower_none
 
-pub returns-then-not-region_sound : goal.returns-then-not-region_sound
-returns-then-not-region_sound c = search lower_here
+pub returns-then-not-region_sound-clause-found : goal.returns-then-not-region_sound-clause-found
+returns-then-not-region_sound-clause-found c = (search lower_here, search rules)
 
 pub loop-region-preserved : goal.loop-region-preserved
-loop-region-preserved c = (search rules, search lower_more)
+loop-region-preserved c = search lower_more
 
-pub returns : goal.returns
-returns c = search lower_end
+pub returns-clause-none : goal.returns-clause-none
+returns-clause-none c = omega (arith, lower_end c.args.file.now c.requires c.loop-region.region c.loop-region.invariant (omega arith))

@@ -1,23 +1,23 @@
 -- `upkeep::view` judges header, number and bucket in turn, and then hands back the slots in use.
-use Rattle.file.specs.File.Judge.{known_passed, room_passed}
+use Rattle.file.specs.File.Judge.{known}
 use Rattle.file.specs.File.Region.{view_headless, view_past, view_there, view_bad}
 use Rattle.file.specs.File.Split.{split_sound}
 use Rattle.upkeep.proofs.view.Goals as goal
 
-pub returns-then-not-header : goal.returns-then-not-header
-returns-then-not-header c = search view_headless
+pub returns-in_default : goal.returns-in_default
+returns-in_default c = search (view_headless, c.in_default.ensures)
 
 pub buckets-buckets-requires : goal.buckets-buckets-requires
-buckets-buckets-requires c = search room_passed
+buckets-buckets-requires c = (known c.args.file.now _ c.in-Some.ensures).room
 
 pub returns-then-buckets-bucket : goal.returns-then-buckets-bucket
-returns-then-buckets-bucket c = search view_past
+returns-then-buckets-bucket c = search (view_past, c.in-Some.ensures)
 
 pub bucket_sound-requires : goal.bucket_sound-requires
-bucket_sound-requires c = (search known_passed, search view_there)
+bucket_sound-requires c = (search (known, c.in-Some.ensures), search (view_there, c.in-Some.ensures))
 
 pub returns-then-not-bucket_sound : goal.returns-then-not-bucket_sound
-returns-then-not-bucket_sound c = search view_bad
+returns-then-not-bucket_sound c = search (view_bad, c.in-Some.ensures)
 
 pub used_slots-requires : goal.used_slots-requires
-used_slots-requires c = (search known_passed, search view_there, search split_sound)
+used_slots-requires c = (search (known, c.in-Some.ensures), search (view_there, c.in-Some.ensures), search split_sound)

@@ -1,6 +1,6 @@
--- `load::number_of` tells the case apart.
+-- A case of the control as a number: each case is told apart.
 use Rattle.load.specs.Load.Decision.{number_zero, number_one, number_two}
-use Rattle.load.proofs.number_of.Goals as goal
+use Rattle.load.proofs.U32FromControl.from.Goals as goal
 
 pub returns-in-NotDue : goal.returns-in-NotDue
 returns-in-NotDue c = search number_zero

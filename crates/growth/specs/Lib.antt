@@ -1,0 +1,2 @@
+-- What a split's result stands for.
+pub mod Split

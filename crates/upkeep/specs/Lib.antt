@@ -1,0 +1,2 @@
+-- What a check's result stands for.
+pub mod Check
