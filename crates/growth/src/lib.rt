@@ -49,7 +49,7 @@ pub fn divide(file: &mut [u8], header: Header, old: u32, new: u32)
         old,
         state.level + 1,
     );
-    put_state(file, address::grown(address::FIRST_BUCKETS, state));
+    put_state(file, state.grown(address::FIRST_BUCKETS));
 }
 
 // Splits a sound bucket n of a file with room for one more: 7, or both buckets' numbers.
@@ -77,11 +77,11 @@ fn split_bucket(file: &mut [u8], header: Header) -> SplitAnswer
     ensures { record { answer = result.reply; old = result.old_bucket; new = result.new_bucket; file = file.new }
         ≡ split file.old }
 {
-    let old = address::splitting(header.state);
+    let old = header.state.splitting();
     if !file::bucket_sound(file, header, old) {
         return refused_split(7, old);
     }
-    let new = address::newborn(address::FIRST_BUCKETS, header.state);
+    let new = header.state.newborn(address::FIRST_BUCKETS);
     split_into(file, header, old, new)
 }
 
@@ -94,7 +94,7 @@ pub fn split(file: &mut [u8]) -> SplitAnswer
     if !header.sound {
         return refused_split(5, address::NO_BUCKET);
     }
-    if header.most <= address::buckets(address::FIRST_BUCKETS, header.state) {
+    if header.most <= header.state.buckets(address::FIRST_BUCKETS) {
         return refused_split(10, address::NO_BUCKET);
     }
     split_bucket(file, header)

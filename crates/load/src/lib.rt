@@ -85,9 +85,8 @@ fn decide(header: Header, bucket: u32, count: u32, threshold: u64) -> Control
     if count <= header.capacity {
         return Control::NotDue;
     }
-    if !address::due(
+    if !header.state.due(
         address::FIRST_BUCKETS,
-        header.state,
         header.capacity,
         bucket,
         count,
@@ -95,7 +94,7 @@ fn decide(header: Header, bucket: u32, count: u32, threshold: u64) -> Control
     ) {
         return Control::NotDue;
     }
-    if header.most <= address::buckets(address::FIRST_BUCKETS, header.state) {
+    if header.most <= header.state.buckets(address::FIRST_BUCKETS) {
         return Control::NoRoom;
     }
     Control::Done
@@ -118,11 +117,11 @@ fn judge_regions(file: &[u8], header: Header, own: u32) -> Regions
         × (bucket_sound_in file.now own ≡ true) }
     ensures { result ≡ regions_of file.now }
 {
-    let old = address::splitting(header.state);
+    let old = header.state.splitting();
     if !old_sound(file, header, own, old) {
         return Regions::Unsound(old);
     }
-    let new = address::newborn(address::FIRST_BUCKETS, header.state);
+    let new = header.state.newborn(address::FIRST_BUCKETS);
     if !file::region_zero(file, header, new) {
         return Regions::Unsound(new);
     }
@@ -217,8 +216,8 @@ fn divide(file: &mut [u8], header: Header) -> LoadAnswer
         × (result.new_bucket ≡ newborn first_buckets header.state)
         × (file.new ≡ divided file.old) }
 {
-    let old = address::splitting(header.state);
-    let new = address::newborn(address::FIRST_BUCKETS, header.state);
+    let old = header.state.splitting();
+    let new = header.state.newborn(address::FIRST_BUCKETS);
     growth::divide(file, header, old, new);
     LoadAnswer {
         reply: 0,

@@ -18,8 +18,8 @@ fn message_level(image: Image, bucket: u32) -> u32
     requires { ImageRoom first_buckets image }
     ensures { Told first_buckets image bucket result }
 {
-    if bucket < address::buckets(FIRST_BUCKETS, image) {
-        return address::level_of(FIRST_BUCKETS, image, bucket);
+    if bucket < image.buckets(FIRST_BUCKETS) {
+        return image.level_of(FIRST_BUCKETS, bucket);
     }
     32 - u32::leading_zeros(bucket)
 }
@@ -60,14 +60,14 @@ pub fn fill_visits(state: Image, image: Image, queue: &mut [u16])
     requires { Scannable state image × (buckets first_buckets state ≤ length queue.old) }
     ensures { queue.new ≡ edit 0 (visits first_buckets state image) queue.old }
 {
-    let count = address::buckets(FIRST_BUCKETS, state) as usize;
-    let mut tail = address::buckets(FIRST_BUCKETS, image) as usize;
+    let count = state.buckets(FIRST_BUCKETS) as usize;
+    let mut tail = image.buckets(FIRST_BUCKETS) as usize;
     send_first(tail, queue);
     let mut handled = 0;
     while handled < count {
         let bucket = queue[handled] as u32;
         let told = message_level(image, bucket);
-        let own = address::level_of(FIRST_BUCKETS, state, bucket);
+        let own = state.level_of(FIRST_BUCKETS, bucket);
         tail = send_on(bucket, told, own, tail, queue);
         handled += 1;
     }

@@ -104,7 +104,7 @@ fn judge_all(file: &[u8], header: Header, lift: u32, notes: &mut [u64]) -> Tally
     requires { Known file.now header }
     ensures { AllJudged file.now lift result.sound result.lowest result.matches notes.new }
 {
-    let buckets = address::buckets(FIRST_BUCKETS, header.state);
+    let buckets = header.state.buckets(FIRST_BUCKETS);
     let mut matches = 0;
     let mut bucket = 0;
     while bucket < buckets {
@@ -147,8 +147,8 @@ fn first_unsound(file: &[u8], header: Header, image: Image, lowest: u32) -> u32
     requires { Starting file.now header image × Lowest file.now lowest }
     ensures { result ≡ first_unsound file.now (visits_of file.now image) }
 {
-    let believed = address::buckets(FIRST_BUCKETS, image);
-    let buckets = address::buckets(FIRST_BUCKETS, header.state);
+    let believed = image.buckets(FIRST_BUCKETS);
+    let buckets = header.state.buckets(FIRST_BUCKETS);
     if lowest < believed {
         return lowest;
     }
@@ -234,7 +234,7 @@ fn put_lists(
         matches.old) }
 {
     let state = header.state;
-    let count = address::buckets(FIRST_BUCKETS, state);
+    let count = state.buckets(FIRST_BUCKETS);
     order::fill_visits(state, image, visits);
     put_matches(
         file,
@@ -304,7 +304,7 @@ fn collect_noting(
         ≡ collected file.now lift (visits_of file.now image) visits.old
         matches.old }
 {
-    if address::buckets(FIRST_BUCKETS, header.state) as usize <= FEW_NOTES {
+    if header.state.buckets(FIRST_BUCKETS) as usize <= FEW_NOTES {
         let mut few = [0u64; FEW_NOTES];
         return collect(file, header, image, lift, &mut few, visits, matches);
     }
@@ -331,7 +331,7 @@ pub fn scan(
     let opened = route::open(file, table, client);
     let header = opened.header;
     let image = opened.image;
-    if visits.len() < address::buckets(FIRST_BUCKETS, header.state) as usize {
+    if visits.len() < header.state.buckets(FIRST_BUCKETS) as usize {
         return refused_scan(11, address::NO_BUCKET);
     }
     collect_noting(file, header, image, lift, visits, matches)

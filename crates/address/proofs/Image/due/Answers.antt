@@ -1,6 +1,6 @@
--- `address::due` compares two products of 64 bits, which have room for any count and capacity of 32.
+-- `Image::due` compares two products of 64 bits, which have room for any count and capacity of 32.
 use Rattle.address.specs.Load.Laws.{wanted_room, wanted_all_room, given_room, given_all_room, due_is}
-use Rattle.address.proofs.due.Goals as goal
+use Rattle.address.proofs.Image.due.Goals as goal
 
 pub overflow_mul-result : goal.overflow_mul-result
 overflow_mul-result c = search wanted_room
