@@ -2,7 +2,7 @@
 // how the file grows. Numbers only; `specs/Rules.antt` has each rule as a definition.
 #![tactic(auto)]
 
-ghost use Rattle.std.specs.Prelude.{◌≡◌, ◌-◌, ◌≤◌, ◌<◌};
+ghost use Rattle.std.specs.Prelude.{◌≡◌, ◌-◌, ◌≤◌, ◌<◌, cond, ltb, Some, None};
 ghost use Rattle.address.specs.Limits.{first_buckets};
 ghost use Rattle.address.specs.Load.{percent, factor, due};
 ghost use Rattle.address.specs.Room.{widest, Room, ImageRoom};
@@ -209,13 +209,20 @@ impl Image {
     }
 }
 
-// The bucket of whose split this one was born, by the leading zeros of its number.
-pub fn parent(bucket: u16) -> u32
-    ensures { result ≡ parent first_buckets bucket }
+// The bucket of whose split this one, not a first one, was born, by the leading zeros of its number.
+pub fn born_of(bucket: u32) -> u32
+    requires { 0 < bucket }
+    ensures { (result ≡ parent first_buckets bucket) × (result < bucket) }
 {
-    let number = bucket as u32;
-    if number == 0 {
-        return NO_BUCKET;
+    bucket - (1 << (31 - bucket.leading_zeros()))
+}
+
+// The bucket of whose split this one was born, and none for a first one.
+pub fn parent(bucket: u16) -> Option<u32>
+    ensures { result ≡ cond (ltb bucket first_buckets) None (Some (parent first_buckets bucket)) }
+{
+    if bucket == 0 {
+        return None;
     }
-    number - (1 << (31 - u32::leading_zeros(number)))
+    Some(born_of(u32::from(bucket)))
 }

@@ -5,7 +5,7 @@
 ghost use Rattle.std.specs.Prelude.{◌≡◌, ℕ, ◌+◌, ◌-◌, ◌≤◌, ◌<◌, length};
 ghost use Rattle.address.specs.Limits.{first_buckets};
 ghost use Rattle.address.specs.Room.{Room, ImageRoom};
-ghost use Rattle.address.specs.Rules.{buckets, child, numbers, visits, parent, earlier};
+ghost use Rattle.address.specs.Rules.{buckets, child, numbers, visits, earlier};
 ghost use Rattle.address.specs.Rules.Order.{born, Told};
 ghost use Rattle.layout.specs.Bytes.{edit};
 ghost use Rattle.order.specs.Queue.{Scannable};
@@ -73,14 +73,6 @@ pub fn fill_visits(state: Image, image: Image, queue: &mut [u16])
     }
 }
 
-// The bucket of whose split this one was born, by the leading zeros of its number.
-fn parent_of(bucket: u32) -> u32
-    requires { 0 < bucket }
-    ensures { (result ≡ parent first_buckets bucket) × (result < bucket) }
-{
-    bucket - (1 << (31 - u32::leading_zeros(bucket)))
-}
-
 // Whether a scan by a client that believes in so many buckets visits one bucket before another: both are followed up
 // to their parents until one of them is believed in or both have one parent.
 pub fn earlier(believed: u32, bucket: u32, other: u32) -> bool
@@ -90,8 +82,8 @@ pub fn earlier(believed: u32, bucket: u32, other: u32) -> bool
     let mut one = bucket;
     let mut two = other;
     while (believed <= one) & (believed <= two) {
-        let above = parent_of(one);
-        let beside = parent_of(two);
+        let above = address::born_of(one);
+        let beside = address::born_of(two);
         if above == beside {
             return one < two;
         }

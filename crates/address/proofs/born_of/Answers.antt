@@ -1,8 +1,8 @@
--- `order::parent_of` takes off the greatest power of two, which the leading zeros tell.
+-- `address::born_of` takes off the greatest power of two, which the leading zeros tell.
 use native.Mathlib.Omega.{arith}
 use Rattle.address.specs.Rules.Parent.{by_zeros}
 use Rattle.address.specs.Rules.Earlier.{parent_lower}
-use Rattle.order.proofs.parent_of.Goals as goal
+use Rattle.address.proofs.born_of.Goals as goal
 
 pub overflow_sub-result : goal.overflow_sub-result
 overflow_sub-result c = (by_zeros c.args.bucket (omega arith) (omega arith)).few
