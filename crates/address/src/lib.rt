@@ -60,7 +60,7 @@ pub fn hash(first: u32, level: u32, key: u64) -> u32
     if first == 1 {
         return (key % (1u64 << level)) as u32;
     }
-    (key % (span(first, level) as u64)) as u32
+    (key % u64::from(span(first, level))) as u32
 }
 
 // Where a bucket sends a key that it does not keep.
@@ -70,10 +70,8 @@ fn onward(first: u32, bucket: u32, level: u32, key: u64) -> u32
 {
     let far = hash(first, level, key);
     let near = hash(first, level.saturating_sub(1), key);
-    if bucket < near {
-        if near < far {
-            return near;
-        }
+    if bucket < near && near < far {
+        return near;
     }
     far
 }
@@ -140,10 +138,7 @@ impl Image {
         requires { ImageRoom first self }
         ensures { result ≡ level first self bucket }
     {
-        if bucket < self.pointer {
-            return self.level + 1;
-        }
-        if span(first, self.level) <= bucket {
+        if bucket < self.pointer || span(first, self.level) <= bucket {
             return self.level + 1;
         }
         self.level
@@ -154,10 +149,7 @@ impl Image {
         requires { Room first level × (bucket ≤ widest) }
         ensures { result ≡ adjusted first self bucket level kept }
     {
-        if kept {
-            return self;
-        }
-        if self.level < level {
+        if !kept && self.level < level {
             return wrapped(first, level - 1, bucket + 1);
         }
         self
@@ -202,10 +194,12 @@ impl Image {
         requires { ImageRoom first self × (threshold ≤ percent) }
         ensures { result ≡ due first self capacity bucket count threshold }
     {
-        let span = span(first, self.level) as u64;
-        let buckets = self.buckets(first) as u64;
+        let span = u64::from(span(first, self.level));
+        let buckets = u64::from(self.buckets(first));
         let factor = self.factor(first, bucket);
-        threshold * capacity as u64 * buckets < PERCENT * span * count as u64 * factor
+        let capacity = u64::from(capacity);
+        let count = u64::from(count);
+        threshold * capacity * buckets < PERCENT * span * count * factor
     }
 }
 

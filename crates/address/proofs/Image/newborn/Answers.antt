@@ -1,8 +1,7 @@
 -- `Image::newborn` is the child of the bucket at the pointer.
-use native.Mathlib.Omega.{arith}
+use Rattle.std.proofs.Common.{arith}
 use Rattle.address.specs.Rules.Cases.{child_is, newborn_is}
 use Rattle.address.proofs.Image.newborn.Goals as goal
 
 pub returns : goal.returns
-returns c = let a = c.args in
-    omega (arith, child_is a.first a.self.pointer a.self.level, newborn_is a.first a.self)
+returns c = grind (arith, child_is, newborn_is)
