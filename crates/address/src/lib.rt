@@ -2,7 +2,7 @@
 // how the file grows. Numbers only; `specs/Rules.antt` has each rule as a definition.
 #![tactic(auto)]
 
-ghost use Rattle.std.specs.Prelude.{◌≡◌, ◌-◌, ◌≤◌, ◌<◌};
+ghost use Rattle.std.specs.Prelude.{◌≡◌, ◌-◌, ◌≤◌, ◌<◌, cond, ltb, Some, None};
 ghost use Rattle.address.specs.Limits.{first_buckets};
 ghost use Rattle.address.specs.Load.{percent, factor, due};
 ghost use Rattle.address.specs.Room.{widest, Room, ImageRoom};
@@ -60,51 +60,7 @@ pub fn hash(first: u32, level: u32, key: u64) -> u32
     if first == 1 {
         return (key % (1u64 << level)) as u32;
     }
-    (key % (span(first, level) as u64)) as u32
-}
-
-// How many buckets there are in an image.
-pub fn buckets(first: u32, image: Image) -> u32
-    requires { ImageRoom first image }
-    ensures { result ≡ buckets first image }
-{
-    span(first, image.level) + image.pointer
-}
-
-// The bucket that an image gives a key.
-pub fn address(first: u32, image: Image, key: u64) -> u32
-    requires { ImageRoom first image }
-    ensures { result ≡ address first image key }
-{
-    let low = hash(first, image.level, key);
-    if low < image.pointer {
-        return hash(first, image.level + 1, key);
-    }
-    low
-}
-
-// The level that a bucket has in an image: a bucket's own, or the message level of a scan.
-pub fn level_of(first: u32, image: Image, bucket: u32) -> u32
-    requires { ImageRoom first image }
-    ensures { result ≡ level first image bucket }
-{
-    if bucket < image.pointer {
-        return image.level + 1;
-    }
-    if span(first, image.level) <= bucket {
-        return image.level + 1;
-    }
-    image.level
-}
-
-// One level less, and 0 at level 0.
-fn lower(level: u32) -> u32
-    ensures { result ≡ level - 1 }
-{
-    if level == 0 {
-        return 0;
-    }
-    level - 1
+    (key % u64::from(span(first, level))) as u32
 }
 
 // Where a bucket sends a key that it does not keep.
@@ -113,11 +69,9 @@ fn onward(first: u32, bucket: u32, level: u32, key: u64) -> u32
     ensures { result ≡ onward first bucket level key }
 {
     let far = hash(first, level, key);
-    let near = hash(first, lower(level), key);
-    if bucket < near {
-        if near < far {
-            return near;
-        }
+    let near = hash(first, level.saturating_sub(1), key);
+    if bucket < near && near < far {
+        return near;
     }
     far
 }
@@ -150,20 +104,6 @@ fn wrapped(first: u32, level: u32, pointer: u32) -> Image
     }
 }
 
-// A client's image after its first bucket, of the level given, did or did not keep the key.
-pub fn adjusted(first: u32, image: Image, bucket: u32, level: u32, kept: bool) -> Image
-    requires { Room first level × (bucket ≤ widest) }
-    ensures { result ≡ adjusted first image bucket level kept }
-{
-    if kept {
-        return image;
-    }
-    if image.level < level {
-        return wrapped(first, level - 1, bucket + 1);
-    }
-    image
-}
-
 // The bucket born of a bucket as its level went one up from `level`.
 pub fn child(first: u32, bucket: u32, level: u32) -> u32
     requires { Room first level × (bucket ≤ widest) }
@@ -172,58 +112,111 @@ pub fn child(first: u32, bucket: u32, level: u32) -> u32
     bucket + span(first, level)
 }
 
-// The bucket that the next split divides.
-pub fn splitting(image: Image) -> u32
-    ensures { result ≡ splitting image }
-{
-    image.pointer
-}
-
-// The bucket that the next split makes.
-pub fn newborn(first: u32, image: Image) -> u32
-    requires { ImageRoom first image }
-    ensures { result ≡ newborn first image }
-{
-    child(first, image.pointer, image.level)
-}
-
-// The state after a split.
-pub fn grown(first: u32, image: Image) -> Image
-    requires { ImageRoom first image }
-    ensures { result ≡ grown first image }
-{
-    wrapped(first, image.level, image.pointer + 1)
-}
-
-// What load control multiplies a bucket's count by: 2 where the bucket's level is one up from the file's, else 1.
-fn factor(first: u32, image: Image, bucket: u32) -> u64
-    requires { ImageRoom first image }
-    ensures { (result ≡ factor first image bucket) × (result ≤ 2) }
-{
-    if level_of(first, image, bucket) == image.level {
-        return 1;
+impl Image {
+    // How many buckets there are in an image.
+    pub fn buckets(self, first: u32) -> u32
+        requires { ImageRoom first self }
+        ensures { result ≡ buckets first self }
+    {
+        span(first, self.level) + self.pointer
     }
-    2
-}
 
-// Whether the count of a bucket makes a split due, by a threshold in percent.
-pub fn due(first: u32, image: Image, capacity: u32, bucket: u32, count: u32, threshold: u64) -> bool
-    requires { ImageRoom first image × (threshold ≤ percent) }
-    ensures { result ≡ due first image capacity bucket count threshold }
-{
-    let span = span(first, image.level) as u64;
-    let buckets = buckets(first, image) as u64;
-    let factor = factor(first, image, bucket);
-    threshold * capacity as u64 * buckets < PERCENT * span * count as u64 * factor
-}
-
-// The bucket of whose split this one was born, by the leading zeros of its number.
-pub fn parent(bucket: u16) -> u32
-    ensures { result ≡ parent first_buckets bucket }
-{
-    let number = bucket as u32;
-    if number == 0 {
-        return NO_BUCKET;
+    // The bucket that an image gives a key.
+    pub fn address(self, first: u32, key: u64) -> u32
+        requires { ImageRoom first self }
+        ensures { result ≡ address first self key }
+    {
+        let low = hash(first, self.level, key);
+        if low < self.pointer {
+            return hash(first, self.level + 1, key);
+        }
+        low
     }
-    number - (1 << (31 - u32::leading_zeros(number)))
+
+    // The level that a bucket has in an image: a bucket's own, or the message level of a scan.
+    pub fn level_of(self, first: u32, bucket: u32) -> u32
+        requires { ImageRoom first self }
+        ensures { result ≡ level first self bucket }
+    {
+        if bucket < self.pointer || span(first, self.level) <= bucket {
+            return self.level + 1;
+        }
+        self.level
+    }
+
+    // A client's image after its first bucket, of the level given, did or did not keep the key.
+    pub fn adjusted(self, first: u32, bucket: u32, level: u32, kept: bool) -> Image
+        requires { Room first level × (bucket ≤ widest) }
+        ensures { result ≡ adjusted first self bucket level kept }
+    {
+        if !kept && self.level < level {
+            return wrapped(first, level - 1, bucket + 1);
+        }
+        self
+    }
+
+    // The bucket that the next split divides.
+    pub fn splitting(self) -> u32
+        ensures { result ≡ splitting self }
+    {
+        self.pointer
+    }
+
+    // The bucket that the next split makes.
+    pub fn newborn(self, first: u32) -> u32
+        requires { ImageRoom first self }
+        ensures { result ≡ newborn first self }
+    {
+        child(first, self.pointer, self.level)
+    }
+
+    // The state after a split.
+    pub fn grown(self, first: u32) -> Image
+        requires { ImageRoom first self }
+        ensures { result ≡ grown first self }
+    {
+        wrapped(first, self.level, self.pointer + 1)
+    }
+
+    // What load control multiplies a bucket's count by: 2 where the bucket's level is one up from the file's, else 1.
+    fn factor(self, first: u32, bucket: u32) -> u64
+        requires { ImageRoom first self }
+        ensures { (result ≡ factor first self bucket) × (result ≤ 2) }
+    {
+        if self.level_of(first, bucket) == self.level {
+            return 1;
+        }
+        2
+    }
+
+    // Whether the count of a bucket makes a split due, by a threshold in percent.
+    pub fn due(self, first: u32, capacity: u32, bucket: u32, count: u32, threshold: u64) -> bool
+        requires { ImageRoom first self × (threshold ≤ percent) }
+        ensures { result ≡ due first self capacity bucket count threshold }
+    {
+        let span = u64::from(span(first, self.level));
+        let buckets = u64::from(self.buckets(first));
+        let factor = self.factor(first, bucket);
+        let capacity = u64::from(capacity);
+        let count = u64::from(count);
+        threshold * capacity * buckets < PERCENT * span * count * factor
+    }
+}
+
+// The bucket of whose split this one, not a first one, was born, by the leading zeros of its number.
+pub fn born_of(bucket: u32) -> u32
+    requires { 0 < bucket }
+    ensures { (result ≡ parent first_buckets bucket) × (result < bucket) }
+{
+    bucket - (1 << (31 - bucket.leading_zeros()))
+}
+
+// The bucket of whose split this one was born, and none for a first one.
+pub fn parent(bucket: u16) -> Option<u32>
+    ensures { result ≡ cond (ltb bucket first_buckets) None (Some (parent first_buckets bucket)) }
+{
+    if bucket == 0 {
+        return None;
+    }
+    Some(born_of(u32::from(bucket)))
 }

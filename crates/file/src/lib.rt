@@ -50,7 +50,7 @@ fn state_fits(state: Image, most: u32) -> bool
         return false;
     }
     let span = address::span(address::FIRST_BUCKETS, state.level);
-    let buckets = address::buckets(address::FIRST_BUCKETS, state);
+    let buckets = state.buckets(address::FIRST_BUCKETS);
     (state.pointer < span) & (buckets <= most)
 }
 
@@ -164,7 +164,7 @@ pub fn bucket_sound(file: &[u8], header: Header, bucket: u32) -> bool
     requires { Known file.now header × (bucket < buckets_of file.now) }
     ensures { result ≡ bucket_sound_in file.now bucket }
 {
-    let level = address::level_of(address::FIRST_BUCKETS, header.state, bucket);
+    let level = header.state.level_of(address::FIRST_BUCKETS, bucket);
     judge_bucket(file, header.slots, bucket, level, 0).sound
 }
 

@@ -77,7 +77,7 @@ pub fn divide(file: &mut [u8], header: Header, old: u32, new: u32)
         old,
         state.level + 1,
     );
-    put_state(file, address::grown(address::FIRST_BUCKETS, state));
+    put_state(file, state.grown(address::FIRST_BUCKETS));
 }
 
 // Splits a sound bucket n of a file with room for one more: 7, or both buckets' numbers.
@@ -99,11 +99,11 @@ fn split_bucket(file: &mut [u8], header: Header) -> Result<Divided, Fault>
     requires { Known file.old header × (buckets_of file.old < most_of file.old) }
     ensures { leaving result file.new ≡ split file.old }
 {
-    let old = address::splitting(header.state);
+    let old = header.state.splitting();
     if !file::bucket_sound(file, header, old) {
         return Err(Fault::Region(old));
     }
-    let new = address::newborn(address::FIRST_BUCKETS, header.state);
+    let new = header.state.newborn(address::FIRST_BUCKETS);
     split_into(file, header, old, new)
 }
 
@@ -114,7 +114,7 @@ pub fn split(file: &mut [u8]) -> Result<Divided, Fault>
     let Some(header) = file::header_of(file) else {
         return Err(Fault::Plain(Refused::Header));
     };
-    if header.most <= address::buckets(address::FIRST_BUCKETS, header.state) {
+    if header.most <= header.state.buckets(address::FIRST_BUCKETS) {
         return Err(Fault::Plain(Refused::NoRoom));
     }
     split_bucket(file, header)

@@ -229,5 +229,5 @@ pub extern "C" fn lhstar_view(file: &[u8], bucket: u64) -> ViewAnswer
 pub extern "C" fn lhstar_parent(bucket: u16) -> u32
     ensures { result ≡ parent first_buckets bucket }
 {
-    address::parent(bucket)
+    address::parent(bucket).unwrap_or(address::NO_BUCKET)
 }

@@ -71,9 +71,8 @@ fn decide(header: Header, bucket: u32, count: u32, threshold: u64) -> Control
     if count <= header.capacity {
         return Control::NotDue;
     }
-    if !address::due(
+    if !header.state.due(
         address::FIRST_BUCKETS,
-        header.state,
         header.capacity,
         bucket,
         count,
@@ -81,7 +80,7 @@ fn decide(header: Header, bucket: u32, count: u32, threshold: u64) -> Control
     ) {
         return Control::NotDue;
     }
-    if header.most <= address::buckets(address::FIRST_BUCKETS, header.state) {
+    if header.most <= header.state.buckets(address::FIRST_BUCKETS) {
         return Control::NoRoom;
     }
     Control::Done
@@ -105,11 +104,11 @@ fn judge_regions(file: &[u8], header: Header, own: u32) -> Result<(), u32>
         × (bucket_sound_in file.now own ≡ true) }
     ensures { result ≡ regions_of file.now }
 {
-    let old = address::splitting(header.state);
+    let old = header.state.splitting();
     if !old_sound(file, header, own, old) {
         return Err(old);
     }
-    let new = address::newborn(address::FIRST_BUCKETS, header.state);
+    let new = header.state.newborn(address::FIRST_BUCKETS);
     if !file::region_zero(file, header, new) {
         return Err(new);
     }
@@ -202,8 +201,8 @@ fn divide(file: &mut [u8], header: Header) -> Divided
     ensures { (result.old ≡ splitting header.state) × (result.new ≡ newborn first_buckets header.state)
         × (file.new ≡ divided file.old) }
 {
-    let old = address::splitting(header.state);
-    let new = address::newborn(address::FIRST_BUCKETS, header.state);
+    let old = header.state.splitting();
+    let new = header.state.newborn(address::FIRST_BUCKETS);
     growth::divide(file, header, old, new);
     Divided { old, new }
 }

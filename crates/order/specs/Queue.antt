@@ -1,7 +1,7 @@
 -- The list of the buckets that a scan sent a message to, filled from its start: first by the client, then by each
 -- bucket in turn.
 use Rattle.std.specs.Prelude.{ℕ, ◌+◌, ◌-◌, ◌≤◌, ◌<◌, ◌≡◌, refl, List, [], ◌∷◌, ◌++◌, length, take, drop, get_or, set}
-use Rattle.std.proofs.Common.{sym, ap, ap₂, ◌∙◌, add-one, arith, length-append, length-take, length-set}
+use Rattle.std.proofs.Common.{sym, ap, ap₂, ◌∙◌, add-one, arith, length-append, length-take, length-drop, length-set}
 use Rattle.std.proofs.Common.{take-append-drop, get_or-take, take_all, take_at, drop-drop}
 use Rattle.std.proofs.Math.Seq.{drop-append-add}
 use Rattle.address.specs.Limits.{first_buckets}
@@ -12,9 +12,10 @@ use Rattle.address.specs.Rules.Cases.{level_high}
 use Rattle.address.proofs.Rules.Scan.{visits_length}
 use Rattle.address.specs.Rules.Order.{born, born_length, Told, Scanning, Answered, scanning_few}
 use Rattle.address.proofs.Rules.Order.{scanning_start}
-use Rattle.address.specs.Rules.Order.{scanning_waits, scanning_next, scanning_done}
+use Rattle.address.specs.Rules.Order.{scanning_waits, scanning_told, scanning_next, scanning_done}
 use Rattle.address.specs.Rules.Earlier.{numbers_length}
 use Rattle.layout.specs.Bytes.{edit}
+use Rattle.layout.specs.Bytes.Apart.{lent}
 use Rattle.layout.specs.Bytes.Edit.{edit_is, length_edit, edit_first, edit_nothing, front_written}
 
 -- What the order of a scan asks of a file's state and a client's image: a client that is not ahead, and numbers of at
@@ -26,6 +27,12 @@ pub record Scannable (state image : Image) : Type 0 where
   pub image_formed : Formed first_buckets image
   pub behind : NotAhead first_buckets state image
   pub few : buckets first_buckets state ≤ 65536
+
+-- What a bucket asks that sends to so many of its children, from the one of level `told` on: levels that are low enough,
+-- and numbers of at most 16 bits.
+pub record Sendable (bucket told count : ℕ) : Type 0 where
+  pub room : Room first_buckets (told + count)
+  pub children : (k : ℕ) → told ≤ k → k < told + count → child first_buckets bucket k < 65536
 
 -- What is still to be written into a list from a place on makes it the whole.
 pub record Writing (queue : List ℕ) (end : ℕ) (rest whole : List ℕ) : Type 0 where
@@ -69,6 +76,12 @@ module _ (at : ℕ) (ys xs : List ℕ) (fits : at + length ys ≤ length xs) whe
       ∙ drop-drop (n - (at + length ys)) (at + length ys) xs
       ∙ ap (λ (k : ℕ). drop k xs) back
 
+-- as many places as are cut out of a list
+cut_long : (queue : List ℕ) (tail count : ℕ) → tail + count ≤ length queue
+    → length (take (tail + count - tail) (drop tail queue)) ≡ count
+cut_long queue tail count fits =
+    omega (arith, length-take (tail + count - tail) (drop tail queue), length-drop tail queue)
+
 some_first : 0 < first_buckets
 some_first = omega arith
 
@@ -83,6 +96,22 @@ pub record Visiting (state image : Image) (begun : List ℕ) (start : ℕ) (queu
   pub on : start ≤ tail
   pub rest : drop tail queue ≡ drop tail begun
   pub under_way : Scanning first_buckets state image handled (take tail queue)
+
+-- The client's messages are written into the list's first places.
+pub first_written : (before : List ℕ) {state image : Image} {sent : List ℕ} {tail : ℕ} → Scannable state image
+    → tail ≡ buckets first_buckets image → buckets first_buckets state ≤ length before
+    → sent ≡ numbers 0 (length (take tail before))
+    → sent ++ drop tail before ≡ edit 0 (numbers 0 tail) before
+first_written before {state} {image} {sent} {tail} known et room e =
+    ap (λ (l : List ℕ). l ++ drop tail before) (e ∙ ap (numbers 0) long)
+    ∙ ap (λ (n : ℕ). numbers 0 tail ++ drop n before) place
+    ∙ sym (edit_is 0 (numbers 0 tail) before)
+  where
+    long : length (take tail before) ≡ tail
+    long = omega (arith, length-take tail before, known.behind)
+
+    place : tail ≡ 0 + length (numbers 0 tail)
+    place = omega (arith, numbers_length 0 tail)
 
 -- at first the client's messages stand there
 pub visiting_start : (before : List ℕ) {state image : Image} {queue : List ℕ} {tail : ℕ} → Scannable state image
@@ -149,12 +178,9 @@ module _ {state image : Image} {begun : List ℕ} {start : ℕ} {queue : List �
           (omega (arith, numbers_length 0 start, so.on))
 
   -- the turn of the next bucket, of level j with message level l
-  module _ {count l j : ℕ} (ec : count ≡ buckets first_buckets state) (more : handled < count)
-      (told : Told first_buckets image (get_or queue handled 0) l)
-      (ej : j ≡ level first_buckets state (get_or queue handled 0)) where
-    abbrev a : ℕ
-    a = get_or queue handled 0
-
+  module _ {count a l j : ℕ} (ec : count ≡ buckets first_buckets state) (more : handled < count)
+      (ea : a ≡ get_or queue handled 0) (told : Told first_buckets image a l)
+      (ej : j ≡ level first_buckets state a) where
     reached : handled < tail
     reached = omega (
       arith,
@@ -163,9 +189,21 @@ module _ {state image : Image} {begun : List ℕ} {start : ℕ} {queue : List �
       length-take tail queue,
     )
 
+    first : a ≡ get_or (take tail queue) handled 0
+    first = ea ∙ sym (get_or-take tail queue handled 0 reached)
+
+    -- its message level is at most its own
+    pub visiting_told : l ≤ j
+    visiting_told = omega (
+      arith,
+      ej,
+      scanning_told first_buckets some_first state known.formed image known.image_formed known.behind
+          handled (take tail queue) so.under_way (omega arith) a l first told,
+    )
+
     answered : Answered first_buckets state image handled (take tail queue) a l
     answered = scanning_next first_buckets some_first state known.formed image known.image_formed known.behind
-        handled (take tail queue) so.under_way (omega arith) a l (sym (get_or-take tail queue handled 0 reached)) told
+        handled (take tail queue) so.under_way (omega arith) a l first told
 
     next : Scanning first_buckets state image (handled + 1) (take tail queue ++ born first_buckets a l (j - l))
     next = rw (add-one handled, ej) answered.next
@@ -182,22 +220,26 @@ module _ {state image : Image} {begun : List ℕ} {start : ℕ} {queue : List �
       so.room,
     )
 
+    -- the list has places for the bucket's children
+    pub visiting_fits : tail + (j - l) ≤ length queue
+    visiting_fits = omega (arith, few, so.room)
+
     -- the level is low, there is room for the bucket's children, and they exist
     pub visiting_room : Room first_buckets j × (tail + (j - l) ≤ length queue)
-        × ((k : ℕ) → l ≤ k → k < j → child first_buckets (get_or queue handled 0) k < 65536)
+        × ((k : ℕ) → l ≤ k → k < j → child first_buckets a k < 65536)
     visiting_room = (
       record {
         some = some_first;
         few = omega arith;
         low = omega (arith, level_high first_buckets state a, known.room.levels.low);
       },
-      omega (arith, few, so.room),
+      visiting_fits,
       λ k low high. omega (arith, answered.children k low (omega arith), known.few),
     )
 
     -- and they are written next
     pub visiting_next : {end : ℕ} {after : List ℕ} → end ≡ tail + (j - l)
-        → after ≡ edit tail (born first_buckets (get_or queue handled 0) l (j - l)) queue
+        → after ≡ edit tail (born first_buckets a l (j - l)) queue
         → Visiting state image begun start after end (handled + 1)
     visiting_next {end} {after} ee e = record {
       known = known;
@@ -228,6 +270,26 @@ module _ {state image : Image} {begun : List ℕ} {start : ℕ} {queue : List �
             ap (λ (n : ℕ). drop n queue) (sym past) ∙ sym (drop-drop (end - tail) tail queue)
             ∙ ap (drop (end - tail)) so.rest ∙ drop-drop (end - tail) tail begun
             ∙ ap (λ (n : ℕ). drop n begun) past
+
+    -- The bucket sends to as many children as places are cut out for,
+    pub visiting_sends : Sendable a l (length (take (tail + (j - l) - tail) (drop tail queue)))
+    visiting_sends =
+        let to : l + length (take (tail + (j - l) - tail) (drop tail queue)) ≡ j =
+        omega (arith, cut_long queue tail (j - l) visiting_fits, visiting_told) in
+        record { room = rw to visiting_room.0; children = rw to visiting_room.2 }
+
+    -- and they are written into those.
+    pub next_written : {sent : List ℕ}
+        → sent ≡ born first_buckets a l (length (take (tail + (j - l) - tail) (drop tail queue)))
+        → take tail queue ++ (sent ++ drop (tail + (j - l) - tail) (drop tail queue))
+        ≡ edit tail (born first_buckets a l (j - l)) queue
+    next_written {sent} e =
+        let count : length (take (tail + (j - l) - tail) (drop tail queue)) ≡ j - l =
+        cut_long queue tail (j - l) visiting_fits in
+        let new : sent ≡ born first_buckets a l (j - l) = e ∙ ap (born first_buckets a l) count in
+        lent tail (tail + (j - l) - tail) sent queue
+        (omega (arith, ap length new, born_length first_buckets a l (j - l)))
+        ∙ ap (λ (l : List ℕ). edit tail l queue) new
 
 -- the visits are read from the start of the list that they were written into
 pub visits_read : {state image : Image} (before : List ℕ) {after : List ℕ} → Scannable state image

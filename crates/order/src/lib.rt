@@ -5,10 +5,10 @@
 ghost use Rattle.std.specs.Prelude.{◌≡◌, ℕ, ◌+◌, ◌-◌, ◌≤◌, ◌<◌, length};
 ghost use Rattle.address.specs.Limits.{first_buckets};
 ghost use Rattle.address.specs.Room.{Room, ImageRoom};
-ghost use Rattle.address.specs.Rules.{buckets, child, numbers, visits, parent, earlier};
+ghost use Rattle.address.specs.Rules.{buckets, child, numbers, visits, earlier};
 ghost use Rattle.address.specs.Rules.Order.{born, Told};
 ghost use Rattle.layout.specs.Bytes.{edit};
-ghost use Rattle.order.specs.Queue.{Scannable};
+ghost use Rattle.order.specs.Queue.{Scannable, Sendable};
 
 use address::{FIRST_BUCKETS, Image};
 
@@ -18,40 +18,31 @@ fn message_level(image: Image, bucket: u32) -> u32
     requires { ImageRoom first_buckets image }
     ensures { Told first_buckets image bucket result }
 {
-    if bucket < address::buckets(FIRST_BUCKETS, image) {
-        return address::level_of(FIRST_BUCKETS, image, bucket);
+    if bucket < image.buckets(FIRST_BUCKETS) {
+        return image.level_of(FIRST_BUCKETS, bucket);
     }
-    32 - u32::leading_zeros(bucket)
+    32 - bucket.leading_zeros()
 }
 
-// The client sends to the first `count` buckets, in number order.
-fn send_first(count: usize, queue: &mut [u16])
-    requires { (count ≤ 65536) × (count ≤ length queue.old) }
-    ensures { queue.new ≡ edit 0 (numbers 0 count) queue.old }
+// The client sends to the first buckets, as many as there are places for, in number order.
+fn send_first(sent: &mut [u16])
+    requires { length sent.old ≤ 65536 }
+    ensures { sent.new ≡ numbers 0 (length sent.old) }
 {
-    let mut k = 0;
-    while k < count {
-        queue[k] = k as u16;
-        k += 1;
+    for (bucket, place) in sent.iter_mut().enumerate() {
+        *place = bucket as u16;
     }
 }
 
-// A bucket of level `own` that gets message level `told` sends to the child of each level between, behind the first
-// `tail` in the list. Answers how many there are then.
-fn send_on(bucket: u32, told: u32, own: u32, tail: usize, queue: &mut [u16]) -> usize
-    requires { Room first_buckets own × (tail + (own - told) ≤ length queue.old)
-        × ((k : ℕ) → told ≤ k → k < own → child first_buckets bucket k < 65536) }
-    ensures { (result ≡ tail + (own - told))
-        × (queue.new ≡ edit tail (born first_buckets bucket told (own - told)) queue.old) }
+// A bucket that gets message level `told` sends to its child of each level from there on, as many as there are places
+// for.
+fn send_on(bucket: u32, told: u32, sent: &mut [u16])
+    requires { Sendable bucket told (length sent.old) }
+    ensures { sent.new ≡ born first_buckets bucket told (length sent.old) }
 {
-    let mut level = told;
-    let mut end = tail;
-    while level < own {
-        queue[end] = address::child(FIRST_BUCKETS, bucket, level) as u16;
-        level += 1;
-        end += 1;
+    for (k, place) in sent.iter_mut().enumerate() {
+        *place = address::child(FIRST_BUCKETS, bucket, told + k as u32) as u16;
     }
-    end
 }
 
 // Fills the list's start with the buckets of a file in the order in which a scan by a client's image visits them; the
@@ -60,25 +51,17 @@ pub fn fill_visits(state: Image, image: Image, queue: &mut [u16])
     requires { Scannable state image × (buckets first_buckets state ≤ length queue.old) }
     ensures { queue.new ≡ edit 0 (visits first_buckets state image) queue.old }
 {
-    let count = address::buckets(FIRST_BUCKETS, state) as usize;
-    let mut tail = address::buckets(FIRST_BUCKETS, image) as usize;
-    send_first(tail, queue);
-    let mut handled = 0;
-    while handled < count {
-        let bucket = queue[handled] as u32;
+    let count = state.buckets(FIRST_BUCKETS) as usize;
+    let mut tail = image.buckets(FIRST_BUCKETS) as usize;
+    send_first(&mut queue[..tail]);
+    for handled in 0..count {
+        let bucket = u32::from(queue[handled]);
         let told = message_level(image, bucket);
-        let own = address::level_of(FIRST_BUCKETS, state, bucket);
-        tail = send_on(bucket, told, own, tail, queue);
-        handled += 1;
+        let own = state.level_of(FIRST_BUCKETS, bucket);
+        let end = tail + (own - told) as usize;
+        send_on(bucket, told, &mut queue[tail..end]);
+        tail = end;
     }
-}
-
-// The bucket of whose split this one was born, by the leading zeros of its number.
-fn parent_of(bucket: u32) -> u32
-    requires { 0 < bucket }
-    ensures { (result ≡ parent first_buckets bucket) × (result < bucket) }
-{
-    bucket - (1 << (31 - u32::leading_zeros(bucket)))
 }
 
 // Whether a scan by a client that believes in so many buckets visits one bucket before another: both are followed up
@@ -90,8 +73,8 @@ pub fn earlier(believed: u32, bucket: u32, other: u32) -> bool
     let mut one = bucket;
     let mut two = other;
     while (believed <= one) & (believed <= two) {
-        let above = parent_of(one);
-        let beside = parent_of(two);
+        let above = address::born_of(one);
+        let beside = address::born_of(two);
         if above == beside {
             return one < two;
         }

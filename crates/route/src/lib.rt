@@ -122,11 +122,11 @@ fn walk_route(file: &[u8], header: Header, image: Image, key: u64) -> Result<End
     ensures stopped { IfErr result (λ walk. Walked file.now key (way_of file.now image key) walk 0 0 7) }
 {
     let state = header.state;
-    let mut bucket = address::address(address::FIRST_BUCKETS, image, key);
+    let mut bucket = image.address(address::FIRST_BUCKETS, key);
     let mut walk = no_walk();
     loop {
         walk = note(walk, bucket);
-        let level = address::level_of(address::FIRST_BUCKETS, state, bucket);
+        let level = state.level_of(address::FIRST_BUCKETS, bucket);
         let judged = file::judge_bucket(file, header.slots, bucket, level, key);
         let fate = address::fate_at(address::FIRST_BUCKETS, judged.sound, bucket, level, key);
         match fate {
@@ -158,8 +158,8 @@ pub fn open(file: &[u8], table: &[u8], client: u64) -> Result<Opened, Refused>
         return Err(Refused::Header);
     };
     let image = client::image_of(table, client);
-    let ahead = address::buckets(address::FIRST_BUCKETS, header.state)
-        < address::buckets(address::FIRST_BUCKETS, image);
+    let ahead = header.state.buckets(address::FIRST_BUCKETS)
+        < image.buckets(address::FIRST_BUCKETS);
     if ahead {
         return Err(Refused::Ahead);
     }
@@ -204,7 +204,7 @@ pub fn adjust(table: &mut [u8], client: u64, state: Image, image: Image, walk: W
         return;
     }
     let first = walk.first;
-    let level = address::level_of(address::FIRST_BUCKETS, state, first);
-    let next = address::adjusted(address::FIRST_BUCKETS, image, first, level, false);
+    let level = state.level_of(address::FIRST_BUCKETS, first);
+    let next = image.adjusted(address::FIRST_BUCKETS, first, level, false);
     client::put_image(table, client, next);
 }

@@ -117,7 +117,7 @@ fn judge_all(file: &[u8], header: Header, lift: u32, notes: &mut [u64]) -> Resul
     ensures sound { IfOk result (λ matches. AllJudged file.now lift true no_bucket matches notes.new) }
     ensures unsound { IfErr result (λ lowest. AllJudged file.now lift false lowest 0 notes.new) }
 {
-    let buckets = address::buckets(FIRST_BUCKETS, header.state);
+    let buckets = header.state.buckets(FIRST_BUCKETS);
     let mut matches = 0;
     for bucket in 0..buckets {
         if !file::bucket_sound(file, header, bucket) {
@@ -150,8 +150,8 @@ fn first_unsound(file: &[u8], header: Header, image: Image, lowest: u32) -> u32
     requires { Starting file.now header image × Lowest file.now lowest }
     ensures { result ≡ first_unsound file.now (visits_of file.now image) }
 {
-    let believed = address::buckets(FIRST_BUCKETS, image);
-    let buckets = address::buckets(FIRST_BUCKETS, header.state);
+    let believed = image.buckets(FIRST_BUCKETS);
+    let buckets = header.state.buckets(FIRST_BUCKETS);
     if lowest < believed {
         return lowest;
     }
@@ -233,7 +233,7 @@ fn put_lists(
         matches.old) }
 {
     let state = header.state;
-    let count = address::buckets(FIRST_BUCKETS, state);
+    let count = state.buckets(FIRST_BUCKETS);
     order::fill_visits(state, image, visits);
     put_matches(
         file,
@@ -308,7 +308,7 @@ fn collect_noting(
         ≡ collected file.now lift (visits_of file.now image) visits.old
         matches.old }
 {
-    if address::buckets(FIRST_BUCKETS, header.state) as usize <= FEW_NOTES {
+    if header.state.buckets(FIRST_BUCKETS) as usize <= FEW_NOTES {
         let mut few = [0u64; FEW_NOTES];
         return collect(file, header, image, lift, &mut few, visits, matches);
     }
@@ -331,7 +331,7 @@ pub fn scan(
     let opened = route::open(file, table, client)?;
     let header = opened.header;
     let image = opened.image;
-    if visits.len() < address::buckets(FIRST_BUCKETS, header.state) as usize {
+    if visits.len() < header.state.buckets(FIRST_BUCKETS) as usize {
         return Err(Fault::Plain(Refused::Visits));
     }
     collect_noting(file, header, image, lift, visits, matches)

@@ -44,7 +44,7 @@ fn region_sound(file: &[u8], header: Header, region: u32) -> bool
     requires { Known file.now header × (region < header.most) }
     ensures { result ≡ region_sound file.now region }
 {
-    if region < address::buckets(address::FIRST_BUCKETS, header.state) {
+    if region < header.state.buckets(address::FIRST_BUCKETS) {
         return file::bucket_sound(file, header, region);
     }
     file::region_zero(file, header, region)
@@ -97,7 +97,7 @@ pub fn view(file: &[u8], bucket: u64) -> &[u8]
     let Some(header) = file::header_of(file) else {
         return &file[..0];
     };
-    let buckets = address::buckets(address::FIRST_BUCKETS, header.state);
+    let buckets = header.state.buckets(address::FIRST_BUCKETS);
     if buckets as u64 <= bucket {
         return &file[..0];
     }

@@ -28,6 +28,19 @@ numbers_cons a e h = ap (numbers a) more ∙ ap (λ (n : ℕ). a ∷ numbers n (
     more : e - a ≡ suc (e - suc a)
     more = omega arith
 
+-- and by the last
+pub numbers_next : (a c : ℕ) → numbers a (c + 1) ≡ numbers a c ++ (a + c) ∷ []
+unfolding numbers
+numbers_next a zero = ap (λ (n : ℕ). n ∷ []) (omega arith)
+numbers_next a (suc c) = ap (numbers a) more ∙ ap (λ (l : List ℕ). a ∷ l) (numbers_next (suc a) c)
+    ∙ ap (λ (n : ℕ). a ∷ (numbers (suc a) c ++ n ∷ [])) last
+  where
+    more : suc c + 1 ≡ suc (c + 1)
+    more = omega arith
+
+    last : suc a + c ≡ a + suc c
+    last = omega arith
+
 pub numbers_none : (a c : ℕ) → c ≡ 0 → numbers a c ≡ []
 unfolding numbers
 numbers_none a c e = rw e
@@ -43,6 +56,18 @@ born_cons N a m j h = ap (born N a m) more ∙ ap (λ (n : ℕ). child N a m ∷
   where
     more : j - m ≡ suc (j - suc m)
     more = omega arith
+
+pub born_next : (N a m c : ℕ) → born N a m (c + 1) ≡ born N a m c ++ child N a (m + c) ∷ []
+unfolding born
+born_next N a m zero = ap (λ (k : ℕ). child N a k ∷ []) (omega arith)
+born_next N a m (suc c) = ap (born N a m) more ∙ ap (λ (l : List ℕ). child N a m ∷ l) (born_next N a (suc m) c)
+    ∙ ap (λ (k : ℕ). child N a m ∷ (born N a (suc m) c ++ child N a k ∷ [])) last
+  where
+    more : suc c + 1 ≡ suc (c + 1)
+    more = omega arith
+
+    last : suc m + c ≡ m + suc c
+    last = omega arith
 
 pub born_none : (N a m c : ℕ) → c ≡ 0 → born N a m c ≡ []
 unfolding born
@@ -254,6 +279,17 @@ module _ (N : ℕ) (positive : 0 < N) (file : Image) (formed : Formed N file)
             };
           };
         }
+
+      -- its message level is at most its own
+      pub scanning_told : (a l : ℕ) → a ≡ get_or sent h 0 → Told N image a l → l ≤ level N file a
+      scanning_told a l ea t = go so.waiting so.waits
+        where
+          go : (waiting : List Message) → Waits N file image h sent waiting → l ≤ level N file a
+          go [] w = absurd (none_waits w)
+          go (m ∷ queue) w =
+              let at : a ≡ m.to = ea ∙ here m queue w in
+              let by : l ≡ m.level = told_single N image a l m.level t (rw at w.told.0) in
+              rw (at, by) w.good.0.up
 
       pub scanning_next : (a l : ℕ) → a ≡ get_or sent h 0 → Told N image a l → Answered N file image h sent a l
       scanning_next a l ea t = go so.waiting so.waits

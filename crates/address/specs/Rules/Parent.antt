@@ -1,16 +1,16 @@
 -- The parent of a bucket: for 2^k ≤ b < 2^(k+1) it is b - 2^k, the bucket of whose split b was born; the first buckets
 -- have none. Trying level after level stops at that k, since spans double.
 use Prim.Native.Nat.{ℕ, zero, suc, ◌+◌, ◌-◌, ◌*◌, ◌^◌, ◌%◌, ◌≤◌, ◌<◌}
-use Rattle.std.specs.Prelude.{◌≡◌}
+use Rattle.std.specs.Prelude.{◌≡◌, cond, ltb, Option, None, Some, unwrap_or}
 use Rattle.std.proofs.Common.{sym, ◌∙◌, mod-eq_of_lt}
-use Rattle.std.proofs.Math.Path.{ap}
+use Rattle.std.proofs.Math.Path.{refl, ap}
 use Rattle.std.proofs.Math.Logic.{⊎_elim}
 use native.Mathlib.Omega.{arith}
 use borrow.Author.Tests.{lt-ltb, le-ltb, le-leb, lt-leb}
 use Rattle.std.specs.Int.Count.{count_leading_zeros}
 use Rattle.std.proofs.lemmas.Nat.{leading_top}
 use Rattle.address.specs.Compare.{below}
-use Rattle.address.specs.Limits.{no_bucket}
+use Rattle.address.specs.Limits.{first_buckets, no_bucket}
 use Rattle.address.specs.Rules.{span, top_span, parent}
 use Rattle.address.specs.Rules.Hash.{span_is, span_mono, span_above}
 
@@ -60,6 +60,15 @@ by_zeros b some small =
       is = ap (λ (z : ℕ). b - z) shift
           ∙ sym (parent_of 1 (omega arith) b k (omega (arith, span_is 1 k)) (omega (arith, span_is 1 (suc k))));
     }
+
+-- A bucket or none is told by one number.
+pub parent_number : (b : ℕ) {found : Option ℕ} {number : ℕ}
+    → found ≡ cond (ltb b first_buckets) None (Some (parent first_buckets b)) → number ≡ unwrap_or found no_bucket
+    → number ≡ parent first_buckets b
+parent_number b {found} {number} e en = en ∙ ap (λ (o : Option ℕ). unwrap_or o no_bucket) e ∙ ⊎_elim
+    (λ l. rw (lt-ltb b first_buckets l) (sym (parent_none first_buckets b l)))
+    (λ l. rw (le-ltb b first_buckets l) refl)
+    (below b first_buckets)
 
 -- no second parent fits
 pub parent_single : (N b o p : ℕ) → o ≡ parent N b → p ≡ parent N b → o ≡ p

@@ -8,11 +8,11 @@ use Rattle.order.proofs.earlier.Goals as goal
 pub loop-one-init : goal.loop-one-init
 loop-one-init c = search lockstep_start
 
-pub parent_of-above-requires : goal.parent_of-above-requires
-parent_of-above-requires c = omega (arith, lockstep_past c.loop-one.invariant c.loop-one-test.true)
+pub born_of-above-requires : goal.born_of-above-requires
+born_of-above-requires c = omega (arith, lockstep_past c.loop-one.invariant c.loop-one-test.true)
 
-pub parent_of-beside-requires : goal.parent_of-beside-requires
-parent_of-beside-requires c = omega (arith, lockstep_past c.loop-one.invariant c.loop-one-test.true)
+pub born_of-beside-requires : goal.born_of-beside-requires
+born_of-beside-requires c = omega (arith, lockstep_past c.loop-one.invariant c.loop-one-test.true)
 
 pub returns-then-above-beside : goal.returns-then-above-beside
 returns-then-above-beside c = search lockstep_siblings

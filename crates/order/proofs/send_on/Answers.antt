@@ -1,61 +1,19 @@
--- `order::send_on`: the children written so far and those still to come are all that the bucket sends to.
-use Rattle.std.proofs.Common.{rules}
-use Prim.Native.Nat.{ℕ, ◌+◌, ◌-◌}
-use mathlib.Core.Path.{refl, sym, ap, ◌∙◌}
-use mathlib.Core.List.{◌∷◌}
-use native.Mathlib.Omega.{arith}
-use lib.ListN.{length-set}
+-- `order::send_on`: as many children as there were turns stand in the first places.
+use Rattle.std.proofs.Common.{◌+◌, rules, arith}
+use Rattle.std.proofs.lemmas.Grind.{common_steps}
 use Rattle.address.specs.Limits.{first_buckets}
 use Rattle.address.specs.Rules.Cases.{child_is}
-use Rattle.address.specs.Rules.Order.{born, born_cons, born_none, born_length}
-use Rattle.order.specs.Queue.{writing_start, writing_more, writing_done}
+use Rattle.address.specs.Rules.Order.{born_none, born_next}
 use Rattle.order.proofs.send_on.Goals as goal
 
-pub loop-level-init : goal.loop-level-init
-loop-level-init c = let a = c.args in (
-  omega arith,
-  refl,
-  refl,
-  writing_start _ a.tail refl
-      (omega (arith, born_length first_buckets a.bucket a.told (a.own - a.told))),
-)
+pub loop-k-init : goal.loop-k-init
+loop-k-init c = search born_none
 
 pub child-requires : goal.child-requires
-child-requires c = let a = c.args in
-    let l = c.loop-level in (
-      search rules,
-      omega (
-        arith,
-        child_is first_buckets a.bucket l.level,
-        c.requires.2 l.level l.invariant.0
-            c.loop-level-test.true,
-      ),
-    )
+child-requires c = let level = c.args.told + c.loop-k.k in (
+  search rules,
+  omega (arith, child_is first_buckets c.args.bucket level, c.requires.children level (omega arith) (omega arith)),
+)
 
-pub overflow_cast-queue : goal.overflow_cast-queue
-overflow_cast-queue c = let l = c.loop-level in
-    omega (
-      arith,
-      c.child.ensures,
-      c.requires.2 l.level l.invariant.0
-          c.loop-level-test.true,
-    )
-
-pub loop-level-preserved : goal.loop-level-preserved
-loop-level-preserved c = let a = c.args in
-    let l = c.loop-level in (
-      omega arith,
-      omega arith,
-      omega (arith, length-set l.queue l.end c.child.result),
-      writing_more l.invariant.3
-          (born_cons first_buckets a.bucket l.level a.own c.loop-level-test.true
-          ∙ ap (λ (b : ℕ). b ∷ born first_buckets a.bucket (l.level + 1) (a.own - (l.level + 1)))
-          (sym c.child.ensures)),
-    )
-
-pub returns : goal.returns
-returns c = let a = c.args in
-    let l = c.loop-level in (
-      omega arith,
-      writing_done l.invariant.3 (born_none first_buckets a.bucket l.level (a.own - l.level) (omega arith)),
-    )
+pub loop-k-preserved : goal.loop-k-preserved
+loop-k-preserved c = grind (arith, common_steps, born_next)

@@ -1,8 +1,0 @@
--- `address::buckets` is the span and the pointer.
-use native.Mathlib.Omega.{arith}
-use Rattle.address.specs.Rules.Cases.{buckets_is}
-use Rattle.address.proofs.buckets.Goals as goal
-
-pub returns : goal.returns
-returns c = let a = c.args in
-    omega (arith, buckets_is a.first a.image)
