@@ -81,7 +81,9 @@ pub fn put(bytes: &mut [u8], at: usize, source: &[u8])
     requires { at + length source.now ≤ length bytes.old }
     ensures { bytes.new ≡ edit at source.now bytes.old }
 {
-    bytes[at..at + source.len()].copy_from_slice(source);
+    for (k, byte) in source.iter().enumerate() {
+        bytes[at + k] = *byte;
+    }
 }
 
 // Writes a number of N bytes at a place. It is one store.
@@ -125,5 +127,7 @@ pub fn copy14(bytes: &mut [u8], at: usize, source: &[u8], from: usize)
 pub fn clear(bytes: &mut [u8])
     ensures { bytes.new ≡ replicate (length bytes.old) 0 }
 {
-    bytes.fill(0);
+    for byte in bytes {
+        *byte = 0;
+    }
 }

@@ -3,8 +3,7 @@ use Rattle.layout.specs.Bytes.Words.{word_read, word_below}
 use Rattle.layout.proofs.read.Goals as goal
 
 pub returns-clause-number : goal.returns-clause-number
-returns-clause-number g c = word_read _ _ _ c.requires.few c.requires.within c.copy_from_slice.ensures.after
-    c.from_le_bytes.ensures
+returns-clause-number g c = search word_read
 
 pub returns-clause-below : goal.returns-clause-below
 returns-clause-below g c = word_below _ _ _ c.type_inv.bytes (returns-clause-number g c)

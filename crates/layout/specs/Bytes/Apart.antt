@@ -79,8 +79,3 @@ lent at n ys xs e =
     sym (append_assoc (take at xs) ys (drop n (drop at xs)))
     ∙ ap (λ (l : List ℕ). take at xs ++ ys ++ l) (drop-drop n at xs ∙ ap (λ (m : ℕ). drop (at + m) xs) e)
     ∙ sym (edit_is at ys xs)
-
-pub source_lent : (at : ℕ) (ys xs : List ℕ) {now : List ℕ} → now ≡ ys
-    → take at xs ++ (now ++ drop (at + length ys - at) (drop at xs)) ≡ edit at ys xs
-source_lent at ys xs e = ap (λ (l : List ℕ). take at xs ++ (l ++ drop (at + length ys - at) (drop at xs))) e
-    ∙ lent at (at + length ys - at) ys xs (omega arith)
