@@ -68,7 +68,7 @@ fn part_rides(
     let mut stay = 0;
     for k in 0..count {
         let at = old + (8 + 24 * k);
-        let key = layout::read8(bytes, at + 2);
+        let key = layout::read::<8>(bytes, at + 2);
         let kept = address::hash(first, level, key) == home;
         copy_slot(bytes, at, new + (8 + 24 * (k - stay)));
         copy_slot(bytes, at, old + (8 + 24 * stay));
@@ -91,7 +91,7 @@ pub fn divide(
         × (slots ≤ most_slots) }
     ensures { bytes.new ≡ halved (keeps first home level) slots level old new bytes.old }
 {
-    let count = layout::read2(bytes, old + 4) as usize;
+    let count = layout::read::<2>(bytes, old + 4) as usize;
     let stay = part_rides(bytes, old, new, slots, count, first, home, level);
     close(bytes, old, slots, level, stay);
     close(bytes, new, slots, level, count - stay);

@@ -34,22 +34,6 @@ pub fn read<const N: usize>(bytes: &[u8], at: usize) -> u64
     u64::from_le_bytes(word)
 }
 
-// The number of two bytes at a place.
-pub fn read2(bytes: &[u8], at: usize) -> u64
-    requires { at + 2 ≤ length bytes.now }
-    ensures { (result ≡ le_at 2 bytes.now at) × (result < 65536) }
-{
-    read::<2>(bytes, at)
-}
-
-// The number of eight bytes at a place.
-pub fn read8(bytes: &[u8], at: usize) -> u64
-    requires { at + 8 ≤ length bytes.now }
-    ensures { result ≡ le_at 8 bytes.now at }
-{
-    read::<8>(bytes, at)
-}
-
 // Whether a mark stands at a place: two bytes, in one comparison.
 pub fn has_mark(bytes: &[u8], at: usize, mark: &[u8; 2]) -> bool
     requires { at + 2 ≤ length bytes.now }
@@ -76,7 +60,8 @@ pub fn is_zero(bytes: &[u8]) -> bool
     words_zero(words) & (rest.iter().fold(0, |seen, byte| seen | *byte) == 0)
 }
 
-// Copies a source over the bytes from a place on.
+// Copies a source over the bytes from a place on. With `copy_from_slice` the compiler no longer knows that the source
+// lies elsewhere, and tests it before each mark.
 pub fn put(bytes: &mut [u8], at: usize, source: &[u8])
     requires { at + length source.now ≤ length bytes.old }
     ensures { bytes.new ≡ edit at source.now bytes.old }
@@ -96,34 +81,19 @@ pub fn write<const N: usize>(bytes: &mut [u8], at: usize, x: u64)
     put(bytes, at, &word[..N]);
 }
 
-// Writes a number of two bytes at a place.
-pub fn put2(bytes: &mut [u8], at: usize, x: u64)
-    requires { at + 2 ≤ length bytes.old }
-    ensures { bytes.new ≡ edit at (le_bytes 2 x) bytes.old }
-{
-    write::<2>(bytes, at, x);
-}
-
-// Writes a number of eight bytes at a place.
-pub fn put8(bytes: &mut [u8], at: usize, x: u64)
-    requires { at + 8 ≤ length bytes.old }
-    ensures { bytes.new ≡ edit at (le_bytes 8 x) bytes.old }
-{
-    write::<8>(bytes, at, x);
-}
-
-// Copies fourteen bytes of a list to a place of another.
+// Copies fourteen bytes of a list to a place of another, as two numbers that overlap: an array of fourteen bytes takes
+// three moves each way.
 pub fn copy14(bytes: &mut [u8], at: usize, source: &[u8], from: usize)
     requires { (at + 14 ≤ length bytes.old) × (from + 14 ≤ length source.now) }
     ensures { bytes.new ≡ edit at (part from 14 source.now) bytes.old }
 {
-    let first = read8(source, from);
-    let last = read8(source, from + 6);
-    put8(bytes, at, first);
-    put8(bytes, at + 6, last);
+    let first = read::<8>(source, from);
+    let last = read::<8>(source, from + 6);
+    write::<8>(bytes, at, first);
+    write::<8>(bytes, at + 6, last);
 }
 
-// Makes all bytes zero.
+// Makes all bytes zero. `fill` writes the last byte by itself, and a split was slower by it.
 pub fn clear(bytes: &mut [u8])
     ensures { bytes.new ≡ replicate (length bytes.old) 0 }
 {

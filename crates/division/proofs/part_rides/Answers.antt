@@ -20,7 +20,7 @@ overflow_add-stay-in-loop-k c = stay_fits _ _ _ _ _ _ _ _ c.requires.1 c.loop-k.
 
 pub loop-k-preserved : goal.loop-k-preserved
 loop-k-preserved c = part_next _ _ _ _ _ _ _ _ c.requires.1 c.loop-k.invariant c.loop-k-test.true
-    c.read8-key.ensures c.hash.ensures.0 c.copy_slot.ensures c.copy_slot-in-loop-k.ensures
+    c.read-key.ensures.number c.hash.ensures.0 c.copy_slot.ensures c.copy_slot-in-loop-k.ensures
     (c.from-stay.ensures ∙ one_is _)
 
 pub returns : goal.returns
