@@ -93,7 +93,7 @@ pub fn copy14(bytes: &mut [u8], at: usize, source: &[u8], from: usize)
     write::<8>(bytes, at + 6, last);
 }
 
-// Makes all bytes zero. `fill` writes the last byte by itself, and a split was slower by it.
+// Makes all bytes zero. `fill` writes the last byte by itself, which is slower.
 pub fn clear(bytes: &mut [u8])
     ensures { bytes.new ≡ replicate (length bytes.old) 0 }
 {
