@@ -37,8 +37,8 @@ fn put_count(answer: &mut [u8], count: u8)
     requires { length answer.old ≡ 24 }
     ensures { answer.new ≡ edit 8 (count ∷ replicate 15 0) answer.old }
 {
-    layout::put8(answer, 8, count as u64);
-    layout::put8(answer, 16, 0);
+    layout::write::<8>(answer, 8, count as u64);
+    layout::write::<8>(answer, 16, 0);
 }
 
 // Writes an answer block without a payload, as three numbers of eight bytes.
@@ -46,7 +46,7 @@ pub fn put_block(answer: &mut [u8], reply: u8, walk: Walk, count: u8)
     requires { (length answer.old ≡ 24) × (walk.count ≤ 3) }
     ensures { answer.new ≡ block reply (noted walk) count no_payload }
 {
-    layout::put8(answer, 0, start_of_block(reply, walk));
+    layout::write::<8>(answer, 0, start_of_block(reply, walk));
     put_count(answer, count);
 }
 

@@ -24,8 +24,8 @@ fn head_sound(region: &[u8], slots: u32, level: u32) -> bool
     ensures { result ≡ head_sound slots level region.now }
 {
     layout::has_mark(region, 0, b"LB")
-        & ((layout::read2(region, 2) ^ level as u64 | layout::read2(region, 6)) == 0)
-        & (layout::read2(region, 4) <= slots as u64)
+        & ((layout::read::<2>(region, 2) ^ level as u64 | layout::read::<2>(region, 6)) == 0)
+        & (layout::read::<2>(region, 4) <= slots as u64)
 }
 
 // The key in a slot.
@@ -33,7 +33,7 @@ pub fn key_at(region: &[u8], slot: usize) -> u64
     requires { (slot_at slot + 24 ≤ length region.now) × (slot < most_slots) }
     ensures { result ≡ key_at region.now slot }
 {
-    layout::read8(region, 8 + 24 * slot + 2)
+    layout::read::<8>(region, 8 + 24 * slot + 2)
 }
 
 // The slot of the first ones that holds a key, and their count if none does.
@@ -223,9 +223,9 @@ fn slots_zero(region: &[u8], from: usize, slots: usize) -> bool
     while k < slots {
         let at = 8 + 24 * k;
         seen = seen
-            | layout::read8(region, at)
-            | layout::read8(region, at + 8)
-            | layout::read8(region, at + 16);
+            | layout::read::<8>(region, at)
+            | layout::read::<8>(region, at + 8)
+            | layout::read::<8>(region, at + 16);
         k = k + 1;
     }
     seen == 0
@@ -252,7 +252,7 @@ pub fn judge(region: &[u8], slots: u32, first: u32, bucket: u32, level: u32, key
     if !head_sound(region, slots, level) {
         return unsound();
     }
-    let count = layout::read2(region, 4) as usize;
+    let count = layout::read::<2>(region, 4) as usize;
     let judged = slots_sound(region, count, first, bucket, level, key);
     if !judged.sound {
         return unsound();
@@ -272,9 +272,9 @@ pub fn place(region: &mut [u8], count: usize, key: u64, payload: &[u8]) -> usize
 {
     let at = 8 + 24 * count;
     layout::put(region, at, b"LR");
-    layout::put8(region, at + 2, key);
+    layout::write::<8>(region, at + 2, key);
     layout::copy14(region, at + 10, payload, 0);
     let held = count + 1;
-    layout::put2(region, 4, held as u64);
+    layout::write::<2>(region, 4, held as u64);
     held
 }

@@ -32,7 +32,7 @@ fn record_formed(table: &[u8], client: usize) -> bool
     ensures { result ≡ record_formed table.now client }
 {
     let at = 8 * client;
-    let word = layout::read8(table, at);
+    let word = layout::read::<8>(table, at);
     layout::has_mark(table, at, b"LC")
         & (word / 16777216 % 256 == 0)
         & (word / 281474976710656 == 0)
@@ -56,7 +56,7 @@ pub fn image_of(table: &[u8], client: u64) -> Image
     let at = 8 * client as usize;
     Image {
         level: u32::from(table[at + 2]),
-        pointer: layout::read2(table, at + 4) as u32,
+        pointer: layout::read::<2>(table, at + 4) as u32,
     }
 }
 

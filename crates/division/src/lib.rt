@@ -15,15 +15,8 @@ fn put_head(bytes: &mut [u8], at: usize, level: u32, count: usize)
     ensures { bytes.new ≡ edit at (head_bytes level count) bytes.old }
 {
     layout::put(bytes, at, b"LB");
-    let figures = [
-        level as u8,
-        0,
-        (count % 256) as u8,
-        (count / 256 % 256) as u8,
-        0,
-        0,
-    ];
-    layout::put(bytes, at + 2, &figures);
+    let [low, high, ..] = count.to_le_bytes();
+    layout::put(bytes, at + 2, &[level as u8, 0, low, high, 0, 0]);
 }
 
 // Writes a bucket's head and makes its unused slots zero.
@@ -52,12 +45,8 @@ fn copy_slot(bytes: &mut [u8], from: usize, to: usize)
     requires { (from + 24 ≤ length bytes.old) × (to + 24 ≤ length bytes.old) }
     ensures { bytes.new ≡ edit to (part from 24 bytes.old) bytes.old }
 {
-    let x = layout::read8(bytes, from);
-    let y = layout::read8(bytes, from + 8);
-    let z = layout::read8(bytes, from + 16);
-    layout::put8(bytes, to, x);
-    layout::put8(bytes, to + 8, y);
-    layout::put8(bytes, to + 16, z);
+    let slot: [u8; 24] = layout::array_at(bytes, from);
+    layout::put(bytes, to, &slot);
 }
 
 // Writes each ride of a bucket behind those that stay and, in a new region, behind those that move, and answers how
@@ -77,15 +66,13 @@ fn part_rides(
         bytes.new }
 {
     let mut stay = 0;
-    let mut k = 0;
-    while k < count {
+    for k in 0..count {
         let at = old + (8 + 24 * k);
-        let key = layout::read8(bytes, at + 2);
+        let key = layout::read::<8>(bytes, at + 2);
         let kept = address::hash(first, level, key) == home;
         copy_slot(bytes, at, new + (8 + 24 * (k - stay)));
         copy_slot(bytes, at, old + (8 + 24 * stay));
-        stay = stay + bucket::chosen(kept, 1, 0);
-        k = k + 1;
+        stay += usize::from(kept);
     }
     stay
 }
@@ -104,7 +91,7 @@ pub fn divide(
         × (slots ≤ most_slots) }
     ensures { bytes.new ≡ halved (keeps first home level) slots level old new bytes.old }
 {
-    let count = layout::read2(bytes, old + 4) as usize;
+    let count = layout::read::<2>(bytes, old + 4) as usize;
     let stay = part_rides(bytes, old, new, slots, count, first, home, level);
     close(bytes, old, slots, level, stay);
     close(bytes, new, slots, level, count - stay);

@@ -59,7 +59,7 @@ fn fixed_bytes(file: &[u8]) -> bool
     requires { 16 ≤ length file.now }
     ensures { result ≡ fixed_bytes file.now }
 {
-    layout::has_mark(file, 0, b"LF") & (layout::read8(file, 8) < 256)
+    layout::has_mark(file, 0, b"LF") & (layout::read::<8>(file, 8) < 256)
 }
 
 // The figures of a header, as they stand there.
@@ -69,13 +69,13 @@ pub fn figures(file: &[u8]) -> Header
 {
     let state = Image {
         level: u32::from(file[2]),
-        pointer: layout::read2(file, 4) as u32,
+        pointer: layout::read::<2>(file, 4) as u32,
     };
     Header {
         state,
         capacity: u32::from(file[3]),
         slots: u32::from(file[8]),
-        most: layout::read2(file, 6) as u32,
+        most: layout::read::<2>(file, 6) as u32,
     }
 }
 
@@ -175,7 +175,7 @@ pub fn held_in(file: &[u8], header: Header, bucket: u32) -> usize
     ensures { (result ≡ count_of (region_of file.now bucket)) × (result ≤ most_slots) }
 {
     let at = start(header.slots, bucket);
-    layout::read2(file, at + 4) as usize
+    layout::read::<2>(file, at + 4) as usize
 }
 
 // The key in a slot of a sound bucket.

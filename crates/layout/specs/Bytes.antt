@@ -4,6 +4,7 @@ pub mod Tests
 pub mod Apart
 pub mod Edit
 pub mod Numbers
+pub mod Words
 use Rattle.std.specs.Prelude.{ℕ, zero, suc, ◌+◌, ◌*◌, ◌/◌, ◌%◌, ◌<◌, Bool, true, cond, ◌&&◌, List, [], ◌∷◌, ◌++◌, eqb}
 use Rattle.std.specs.Prelude.{length, get_or, take, drop}
 

@@ -103,9 +103,9 @@ pub fn put_ride(out: &mut [u8], at: usize, letter: u8, answer: &[u8]) -> usize
         out.new result }
 {
     let route = [
-        layout::read2(answer, 2) as u16,
-        layout::read2(answer, 4) as u16,
-        layout::read2(answer, 6) as u16,
+        layout::read::<2>(answer, 2) as u16,
+        layout::read::<2>(answer, 4) as u16,
+        layout::read::<2>(answer, 6) as u16,
     ];
     let count = route_count(answer[1]);
     put_answer(

@@ -85,7 +85,7 @@ fn used_slots(file: &[u8], header: Header, bucket: u32) -> &[u8]
 {
     let at = file::start(header.slots, bucket);
     let from = at + 8;
-    let to = from + 24 * layout::read2(file, at + 4) as usize;
+    let to = from + 24 * layout::read::<2>(file, at + 4) as usize;
     &file[from..to]
 }
 

@@ -4,4 +4,4 @@ use Rattle.bucket.specs.Region.Judge.{key_is}
 use Rattle.bucket.proofs.key_at.Goals as goal
 
 pub returns : goal.returns
-returns c = c.read8.ensures ∙ sym (key_is c.args.region.now c.args.slot)
+returns c = c.read.ensures.number ∙ sym (key_is c.args.region.now c.args.slot)

@@ -12,12 +12,12 @@ close-requires c = (search old_fits, search (some_fit, rules), search rules, sea
 
 pub close-requires-2 : goal.close-requires-2
 close-requires-2 c = let parted = c.part_rides-stay.ensures in (
-  new_fits _ _ _ _ c.requires.1 c.read2-count.ensures.0 parted c.close.auto.bytes,
-  some_fit _ _ _ _ c.requires.1 c.read2-count.ensures.0 (omega arith),
+  new_fits _ _ _ _ c.requires.1 c.read-count.ensures.number parted c.close.auto.bytes,
+  some_fit _ _ _ _ c.requires.1 c.read-count.ensures.number (omega arith),
   search rules,
   search rules,
 )
 
 pub returns : goal.returns
-returns c = halved_done _ _ _ _ c.requires.1 c.read2-count.ensures.0 c.part_rides-stay.ensures _ c.close.ensures
+returns c = halved_done _ _ _ _ c.requires.1 c.read-count.ensures.number c.part_rides-stay.ensures _ c.close.ensures
     c.close-2.ensures

@@ -1,5 +1,4 @@
 -- `division::part_rides`: the rides so far are parted; each turn writes one behind both groups and counts it to one.
-use Prim.Native.Nat.{◌-◌}
 use Rattle.address.specs.Rules.{keeps}
 use Rattle.bucket.specs.Region.Divide.{Parted}
 use Rattle.division.proofs.part_rides.Given as goal
@@ -7,6 +6,3 @@ use Rattle.division.proofs.part_rides.Given as goal
 abbrev pub invariant-loop-k : goal.invariant-loop-k
 invariant-loop-k l = Parted (keeps l.first l.home l.level) l.initial.bytes
     l.slots l.old l.new l.count l.k l.stay l.bytes
-
-abbrev pub decreases-loop-k : goal.decreases-loop-k
-decreases-loop-k l = l.count - l.k

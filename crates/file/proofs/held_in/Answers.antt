@@ -3,8 +3,8 @@ use native.Mathlib.Omega.{arith}
 use Rattle.file.specs.File.Region.{known_fits, known_count, sound_few}
 use Rattle.file.proofs.held_in.Goals as goal
 
-pub read2-requires : goal.read2-requires
-read2-requires c = let a = c.args in
+pub read-requires-clause-within : goal.read-requires-clause-within
+read-requires-clause-within c = let a = c.args in
     omega (
       arith,
       known_fits a.file.now a.header c.requires.0 a.bucket c.start-at.result c.start-at.ensures.0
@@ -15,7 +15,7 @@ pub returns : goal.returns
 returns c = let a = c.args in
     let s = c.start-at in
     let counted = known_count a.file.now a.header c.requires.0 a.bucket s.result s.ensures.0
-    c.read2.result c.read2.ensures.0 in (
+    c.read.result c.read.ensures.number in (
       counted,
       omega
           (arith, counted, sound_few a.file.now a.bucket c.requires.2, c.requires.0.ranges.figured.few_slots),

@@ -1,13 +1,7 @@
--- `layout::is_zero`: so far every byte was zero, or not; first in whole words, then byte by byte.
-use native.Mathlib.Omega.{arith}
-use Rattle.layout.specs.Bytes.Tests.{zero_more, zero_done}
+-- `layout::is_zero`: the words are zero, and so is what is left behind them.
+use Rattle.std.proofs.Common.{rules}
+use Rattle.layout.specs.Bytes.Words.{whole_zero}
 use Rattle.layout.proofs.is_zero.Goals as goal
 
-pub loop-k-init : goal.loop-k-init
-loop-k-init c = (omega arith, c.words_zero-clean.ensures)
-
-pub loop-k-preserved : goal.loop-k-preserved
-loop-k-preserved c = (omega arith, search zero_more)
-
 pub returns : goal.returns
-returns c = search zero_done
+returns c = whole_zero _ _ _ c.as_chunks.ensures.front c.as_chunks.ensures.back c.words_zero.ensures (search rules)

@@ -237,7 +237,7 @@ sum_none x y = by_cases (ℕ_discrete x 0)
     (λ f. rw (eq-eqb x 0 e, ne_eqb y 0 f) (ne_eqb (x + 256 * y) 0 (λ z. f (omega arith)))))
     (λ e. rw (ne_eqb x 0 e) (ne_eqb (x + 256 * y) 0 (λ z. e (omega arith))))
 
-or_none : (a b : ℕ) → eqb (bit_or a b) 0 ≡ (eqb a 0 && eqb b 0)
+pub or_none : (a b : ℕ) → eqb (bit_or a b) 0 ≡ (eqb a 0 && eqb b 0)
 or_none a b = by_cases (ℕ_discrete a 0)
     (λ e. rw (eq-eqb a 0 e) (ap (λ (x : ℕ). eqb (bit_or x b) 0) e ∙ ap (λ (x : ℕ). eqb x 0) (or_zero_l b)))
     (λ e. rw (ne_eqb a 0 e) (ne_eqb (bit_or a b) 0 (λ z. e (omega (arith, or_add_and a b, and_le_r a b)))))
@@ -253,7 +253,7 @@ pub both_none : (a b c : ℕ) → eqb (bit_or (bit_xor a b) c) 0 ≡ (eqb a b &&
 both_none a b c = or_none (bit_xor a b) c ∙ ap (λ (t : Bool). t && eqb c 0) (xor_none a b)
 
 -- the bytes before a place and the number there are zero if all these bytes are
-zero_number : (xs : List ℕ) (n at : ℕ)
+pub zero_number : (xs : List ℕ) (n at : ℕ)
     → all_below (λ i. eqb (get_or xs i 0) 0) (at + n)
     ≡ (all_below (λ i. eqb (get_or xs i 0) 0) at && eqb (le_at n xs at) 0)
 unfolding le_at all_below
@@ -267,7 +267,7 @@ zero_number xs (suc n) at =
     (sym (sum_none (get_or xs at 0) (le_at n xs (suc at))))
 
 -- a number's bytes from one on are zero if the number is below that one's worth
-le_split : (n m : ℕ) (xs : List ℕ) (at : ℕ) → le_at (n + m) xs at ≡ le_at n xs at + 256 ^ n * le_at m xs (at + n)
+pub le_split : (n m : ℕ) (xs : List ℕ) (at : ℕ) → le_at (n + m) xs at ≡ le_at n xs at + 256 ^ n * le_at m xs (at + n)
 unfolding le_at
 le_split zero m xs at = rw (zero-add m, add-zero at) (omega arith)
 le_split (suc n) m xs at = rw (suc-add n m) (omega

@@ -3,8 +3,8 @@ use native.Mathlib.Omega.{arith}
 use Rattle.file.specs.File.Region.{known_fits, known_there, view_fits, view_used}
 use Rattle.upkeep.proofs.used_slots.Goals as goal
 
-pub read2-requires : goal.read2-requires
-read2-requires c = let a = c.args in
+pub read-requires-clause-within : goal.read-requires-clause-within
+read-requires-clause-within c = let a = c.args in
     let there = known_there a.file.now a.header c.requires.0 c.requires.1 in
     omega (
       arith,
