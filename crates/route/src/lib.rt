@@ -87,24 +87,24 @@ fn walk_route(file: &[u8], header: Header, image: Image, key: u64) -> End
     let state = header.state;
     let mut bucket = address::address(address::FIRST_BUCKETS, image, key);
     let mut walk = no_walk();
-    loop {
+    'walk: loop {
         walk = note(walk, bucket);
         let level = address::level_of(address::FIRST_BUCKETS, state, bucket);
         let judged = file::judge_bucket(file, header.slots, bucket, level, key);
-        let fate = address::fate_at(address::FIRST_BUCKETS, judged.sound, bucket, level, key);
-        match fate {
-            Fate::Keep => {
+        let fate = address::fate_at(address::FIRST_BUCKETS, judged.is_some(), bucket, level, key);
+        match (fate, judged) {
+            (Fate::Keep, Some(place)) => {
                 return End {
                     reply: 0,
                     bucket,
-                    place: judged.place,
+                    place,
                     walk,
                 };
             }
-            Fate::SendOn(next) => {
+            (Fate::SendOn(next), _) => {
                 bucket = next;
             }
-            Fate::Unsound => {
+            _ => {
                 return End {
                     reply: 7,
                     bucket,

@@ -6,7 +6,7 @@ use Rattle.layout.specs.Bytes.Tests.{all_none}
 use Rattle.bucket.specs.Region.Judge.{fitting}
 use Rattle.bucket.specs.Region.Single.{chain_none}
 use Rattle.bucket.specs.Region.Told.{slot_unfit, wide_byte, chain_from, chained_double, slot_next}
-use Rattle.bucket.specs.Region.Told.{chain_next, chain_all, chain_last, chained_done}
+use Rattle.bucket.specs.Region.Told.{chain_next, chained_done}
 use Rattle.bucket.proofs.slots_chained.Goals as goal
 
 pub loop-k-init : goal.loop-k-init
@@ -25,17 +25,14 @@ overflow_cast-next c = search wide_byte
 pub seek-requires : goal.seek-requires
 seek-requires c = (search rules, search rules, search rules, search chain_from)
 
-pub returns-then-seek-ne0 : goal.returns-then-seek-ne0
-returns-then-seek-ne0 c = search chained_double
+pub returns-then-is_some : goal.returns-then-is_some
+returns-then-is_some c = search chained_double
 
 pub loop-k-preserved : goal.loop-k-preserved
 loop-k-preserved c = (search slot_next, search chain_next)
 
 pub overflow_cast-last : goal.overflow_cast-last
 overflow_cast-last c = search wide_byte
-
-pub seek-found-requires : goal.seek-found-requires
-seek-found-requires c = (search rules, search rules, search chain_all, search chain_last)
 
 pub returns : goal.returns
 returns c = search chained_done
