@@ -40,12 +40,7 @@ fn find(region: &[u8], count: usize, key: u64) -> Option<usize>
     requires { (slot_at count ≤ length region.now) × (count ≤ most_slots) }
     ensures { result ≡ first_found region.now count key }
 {
-    for k in 0..count {
-        if key_at(region, k) == key {
-            return Some(k);
-        }
-    }
-    None
+    (0..count).position(|k| key_at(region, k) == key)
 }
 
 // One number or another, by a test.
@@ -106,8 +101,7 @@ fn seek(region: &[u8], before: &[u8], count: usize, latest: usize, key: u64) -> 
     ensures { SoughtAt region.now key count result }
 {
     let mut next = latest;
-    while next != 0 {
-        let slot = next - 1;
+    while let Some(slot) = next.checked_sub(1) {
         if key_at(region, slot) == key {
             return Some(slot);
         }

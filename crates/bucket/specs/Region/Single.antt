@@ -3,7 +3,9 @@
 use Rattle.std.specs.Prelude.{ℕ, zero, suc, ◌+◌, ◌*◌, ◌/◌, ◌%◌, ◌-◌, ◌≤◌, ◌<◌, ◌≡◌, refl, Bool, true, false, cond, not}
 use Rattle.std.specs.Prelude.{◌&&◌, List, ◌⊎◌, Option, Some, None, is_some, eqb, ltb, length, get_or, set, replicate}
 use Rattle.std.specs.Option.{unwrap_or}
-use Rattle.std.proofs.Common.{sym, ap, subst, ◌∙◌, true≢false, inl, inr, ⊎_elim, add-one, arith, eq-eqb, ne_eqb}
+use Rattle.std.specs.List.{position, position_or_len, range_with_len}
+use Rattle.std.proofs.lemmas.List.FromFn.{length-range_with_len}
+use Rattle.std.proofs.Common.{sym, ap, ap₂, subst, ◌∙◌, true≢false, inl, inr, ⊎_elim, add-one, arith, eq-eqb, ne_eqb}
 use Rattle.std.proofs.Common.{eqb-true, length-set, get_or-set_same, get_or-set_other}
 use Rattle.std.proofs.lemmas.Bool.{false≢true}
 use Rattle.std.proofs.lemmas.Option.{none-some, same_Some, cond_some}
@@ -12,7 +14,7 @@ use Rattle.std.proofs.lemmas.List.{length-replicate, get_or-replicate}
 use Rattle.address.specs.Limits.{most_slots}
 use Rattle.address.specs.Compare.{below, same}
 use Rattle.layout.specs.Bytes.{all_below, first_from}
-use Rattle.layout.specs.Bytes.Tests.{and_none, and_both, all_fails, first_within, first_before, first_passes}
+use Rattle.layout.specs.Bytes.Tests.{and_none, and_both, all_fails, first_here, first_later, first_none, first_within, first_before, first_passes}
 use Rattle.bucket.specs.Region.{slot_used, key_at, rides_from, keys_of, every, distinct}
 use Rattle.bucket.specs.Region.Rides.{distinct_append}
 use Rattle.bucket.specs.Region.Judge.{keys_more, fresh_from, stands, distinct_later, fitting, fits_all}
@@ -182,18 +184,46 @@ pub first_found : List ℕ → ℕ → ℕ → Option ℕ
 first_found region count key =
     let place = first_from (λ i. eqb (key_at region i) key) count 0 in cond (ltb place count) (Some place) None
 
+-- the first of numbers from k on, as a place in their list
+position_from : (test : ℕ → Bool) (c k e : ℕ) → e ≡ k + c
+    → k + position_or_len test (range_with_len k c) ≡ first_from test (e - k) k
+position_from test zero k e is = omega (arith, first_none test e k (omega arith))
+position_from test (suc c) k e is = go (test k) refl (position_from test c (k + 1) e (omega arith))
+  where
+    rest : ℕ
+    rest = position_or_len test (range_with_len (k + 1) c)
+
+    go : (b : Bool) → test k ≡ b → k + 1 + rest ≡ first_from test (e - (k + 1)) (k + 1)
+        → k + cond (not b) (1 + rest) 0 ≡ first_from test (e - k) k
+    go true t so = omega (arith, first_here test e k (omega arith) t)
+    go false t so = omega (arith, first_later test e k (omega arith) t, so)
+
 module _ (region : List ℕ) (count key : ℕ) where
   abbrev first : ℕ
   first = first_from (λ i. eqb (key_at region i) key) count 0
 
   -- the first of all is found, and if there is none nothing is
-  pub found_here : (k : ℕ) → k < count → k ≡ first → Some k ≡ first_found region count key
+  found_here : (k : ℕ) → k < count → k ≡ first → Some k ≡ first_found region count key
   unfolding first_found
   found_here k inside e = rw (sym e, lt-ltb k count inside)
 
-  pub found_nowhere : count ≤ first → None ≡ first_found region count key
+  found_nowhere : count ≤ first → None ≡ first_found region count key
   unfolding first_found
   found_nowhere h = rw (le-ltb first count h)
+
+  pub found_position : position (λ k. eqb (key_at region k) key) (range_with_len 0 count)
+      ≡ first_found region count key
+  unfolding first_found
+  found_position = ap₂ (λ (place n : ℕ). cond (ltb place n) (Some place) None)
+      (omega (
+        arith,
+        position_from (λ k. eqb (key_at region k) key) count 0 count (omega arith),
+        ap (λ (n : ℕ). first_from (λ k. eqb (key_at region k) key) n 0) whole,
+      ))
+      (length-range_with_len 0 count)
+    where
+      whole : count - 0 ≡ count
+      whole = omega arith
 
   module _ {found : Option ℕ} (is : found ≡ first_found region count key) where
     found_told : is_some found ≡ ltb first count

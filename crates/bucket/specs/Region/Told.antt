@@ -25,7 +25,7 @@ use Rattle.bucket.specs.Region.Judge.{judged_rest}
 use Rattle.bucket.specs.Region.Keep.{slot_is}
 use Rattle.bucket.specs.Region.Single.{fingerprints, fingerprint, latest_of, Chained, SoughtAt, Sought}
 use Rattle.bucket.specs.Region.Single.{sought_next}
-use Rattle.bucket.specs.Region.Single.{sought_met, sought_stands, sought_fresh, first_found, found_here, found_nowhere}
+use Rattle.bucket.specs.Region.Single.{sought_met, sought_stands, sought_fresh, first_found}
 use Rattle.bucket.specs.Region.Single.{found_none, found_met, found_place}
 use Rattle.bucket.specs.Region.Single.{single_more}
 use Rattle.bucket.specs.Region.Single.{single_met, single_done, Chaining, chain_start, chain_met, chain_more}
@@ -54,14 +54,13 @@ find_start region count key = record {
     whole = omega arith
 
 module _ (region : List ℕ) (count key k : ℕ) (so : Finding region count key k) where
-  pub find_none : count ≤ k → None ≡ first_found region count key
-  find_none end = found_nowhere region count key
-      (omega (arith, end, sym (first_none (λ i. eqb (key_at region i) key) count k end) ∙ so.is))
+  pub find_none : count ≤ k → k ≡ first_from (λ i. eqb (key_at region i) key) count 0
+  find_none end = sym (first_none (λ i. eqb (key_at region i) key) count k end) ∙ so.is
 
   module _ (inside : k < count) {held : ℕ} (is : held ≡ key_at region k) where
-    pub find_here : held ≡ key → Some k ≡ first_found region count key
-    find_here e = found_here region count key k inside
-        (sym (first_here (λ i. eqb (key_at region i) key) count k inside (eq-eqb _ _ (sym is ∙ e))) ∙ so.is)
+    pub find_here : held ≡ key → k ≡ first_from (λ i. eqb (key_at region i) key) count 0
+    find_here e = sym (first_here (λ i. eqb (key_at region i) key) count k inside (eq-eqb _ _ (sym is ∙ e)))
+        ∙ so.is
 
     pub find_later : (held ≡ key → ⊥) → Finding region count key (k + 1)
     find_later h = record {
@@ -71,17 +70,26 @@ module _ (region : List ℕ) (count key k : ℕ) (so : Finding region count key 
 
 -- ---- a key sought along its chain
 
-module _ (region : List ℕ) (key count next : ℕ) (so : Sought region key count next) (some : next ≡ 0 → ⊥) {held : ℕ}
-    (is : held ≡ key_at region (next - 1)) where
-  pub seek_met : held ≡ key → SoughtAt region key count (Some (next - 1))
-  seek_met e = sought_met region key count next so some (sym is ∙ e)
+module _ (region : List ℕ) (key count next : ℕ) (so : Sought region key count next) {slot : ℕ}
+    (back : (1 ≤ next) × (slot ≡ next - 1)) {held : ℕ} (is : held ≡ key_at region slot) where
+  some : next ≡ 0 → ⊥
+  some none = omega (arith, none, back.0)
+
+  read : key_at region (next - 1) ≡ held
+  read = sym (is ∙ ap (key_at region) back.1)
+
+  pub seek_met : held ≡ key → SoughtAt region key count (Some slot)
+  seek_met e = subst (λ (n : ℕ). SoughtAt region key count (Some n)) (sym back.1)
+      (sought_met region key count next so some (read ∙ e))
 
   module _ (other : held ≡ key → ⊥) (before : List ℕ) (chained : Chained region before count) where
-    pub seek_next : Sought region key count (get_or before (next - 1) 0)
-    seek_next = (sought_next region key count next so some before chained (λ e. other (is ∙ e))).0
+    pub seek_next : Sought region key count (get_or before slot 0)
+    seek_next = subst (λ (n : ℕ). Sought region key count (get_or before n 0)) (sym back.1)
+        (sought_next region key count next so some before chained (λ e. other (sym read ∙ e))).0
 
-    pub seek_less : get_or before (next - 1) 0 < next
-    seek_less = (sought_next region key count next so some before chained (λ e. other (is ∙ e))).1
+    pub seek_less : get_or before slot 0 < next
+    seek_less = subst (λ (n : ℕ). get_or before n 0 < next) (sym back.1)
+        (sought_next region key count next so some before chained (λ e. other (sym read ∙ e))).1
 
 -- ---- one slot, with the key that was read of it: it fits or it does not
 
