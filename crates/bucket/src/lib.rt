@@ -53,29 +53,40 @@ pub fn chosen(test: bool, one: usize, other: usize) -> usize
     other
 }
 
-// Whether a slot is marked and its key, which is given, belongs.
-fn slot_fits(region: &[u8], slot: usize, first: u32, bucket: u32, level: u32, key: u64) -> bool
-    requires { Room first level × (slot_at slot + 24 ≤ length region.now) × (slot < most_slots) }
-    ensures { result ≡ (slot_used region.now slot && keeps first bucket level key) }
-{
-    layout::has_mark(region, 8 + 24 * slot, b"LR") & (address::hash(first, level, key) == bucket)
-}
-
-// The same as `slots_sound`, each key compared with all before it.
-fn slots_paired(
-    region: &[u8],
-    count: usize,
+// A bucket by what decides which keys are its own: its number, its level and how many buckets a file starts with.
+#[derive(Clone, Copy)]
+struct Home {
     first: u32,
     bucket: u32,
     level: u32,
-    key: u64,
-) -> Option<usize>
-    requires { Room first level × (slot_at count ≤ length region.now) × (count ≤ most_slots) }
-    ensures { result ≡ slots_judged (keeps first bucket level) region.now count key }
+    ghost room: { Room first level },
+}
+
+impl Home {
+    // Whether a key belongs.
+    fn keeps(self, key: u64) -> bool
+        ensures { result ≡ keeps self.first self.bucket self.level key }
+    {
+        address::hash(self.first, self.level, key) == self.bucket
+    }
+}
+
+// Whether a slot is marked and its key, which is given, belongs.
+fn slot_fits(region: &[u8], slot: usize, home: Home, key: u64) -> bool
+    requires { (slot_at slot + 24 ≤ length region.now) × (slot < most_slots) }
+    ensures { result ≡ (slot_used region.now slot && keeps home.first home.bucket home.level key) }
+{
+    layout::has_mark(region, 8 + 24 * slot, b"LR") & home.keeps(key)
+}
+
+// The same as `slots_sound`, each key compared with all before it.
+fn slots_paired(region: &[u8], count: usize, home: Home, key: u64) -> Option<usize>
+    requires { (slot_at count ≤ length region.now) × (count ≤ most_slots) }
+    ensures { result ≡ slots_judged (keeps home.first home.bucket home.level) region.now count key }
 {
     for k in 0..count {
         let held = key_at(region, k);
-        if !slot_fits(region, k, first, bucket, level, held) {
+        if !slot_fits(region, k, home, held) {
             return None;
         }
         if find(region, k, held).is_some() {
@@ -95,7 +106,13 @@ fn fingerprint(key: u64) -> usize
 
 // A slot that holds a key, of the first ones: of the key's fingerprint they are the latest, one less than a number that
 // is not 0, the one before that, and so on.
-fn seek(region: &[u8], before: &[u8], count: usize, latest: usize, key: u64) -> Option<usize>
+fn seek(
+    region: &[u8],
+    before: &[u8; address::MOST_SLOTS],
+    count: usize,
+    latest: usize,
+    key: u64,
+) -> Option<usize>
     requires { (slot_at count ≤ length region.now) × (count ≤ most_slots) × Chained region.now before.now count
         × (latest ≡ latest_of region.now (fingerprint key) count) }
     ensures { SoughtAt region.now key count result }
@@ -111,24 +128,21 @@ fn seek(region: &[u8], before: &[u8], count: usize, latest: usize, key: u64) -> 
 }
 
 // The same as `slots_sound`, with tables to chain each slot to the latest before it of its key's fingerprint, where an
-// equal key would be met.
+// equal key would be met. They hold one more than a slot, and 0 for none, in a byte: they are cleared for each call.
 fn slots_chained(
     region: &[u8],
     count: usize,
-    first: u32,
-    bucket: u32,
-    level: u32,
+    home: Home,
     key: u64,
-    latest: &mut [u8],
-    before: &mut [u8],
+    latest: &mut [u8; FINGERPRINTS],
+    before: &mut [u8; address::MOST_SLOTS],
 ) -> Option<usize>
-    requires { Room first level × (slot_at count ≤ length region.now) × (count ≤ most_slots)
-        × (latest.old ≡ replicate fingerprints 0) × (length before.old ≡ most_slots) }
-    ensures { result ≡ slots_judged (keeps first bucket level) region.now count key }
+    requires { (slot_at count ≤ length region.now) × (count ≤ most_slots) × (latest.old ≡ replicate fingerprints 0) }
+    ensures { result ≡ slots_judged (keeps home.first home.bucket home.level) region.now count key }
 {
     for k in 0..count {
         let held = key_at(region, k);
-        if !slot_fits(region, k, first, bucket, level, held) {
+        if !slot_fits(region, k, home, held) {
             return None;
         }
         let mark = fingerprint(held);
@@ -145,32 +159,16 @@ fn slots_chained(
 
 // The slot that holds a key, or the count, if each slot in use is marked, each key belongs and none stands twice: few
 // keys are compared with one another, many are chained.
-fn slots_sound(
-    region: &[u8],
-    count: usize,
-    first: u32,
-    bucket: u32,
-    level: u32,
-    key: u64,
-) -> Option<usize>
-    requires { Room first level × (slot_at count ≤ length region.now) × (count ≤ most_slots) }
-    ensures { result ≡ slots_judged (keeps first bucket level) region.now count key }
+fn slots_sound(region: &[u8], count: usize, home: Home, key: u64) -> Option<usize>
+    requires { (slot_at count ≤ length region.now) × (count ≤ most_slots) }
+    ensures { result ≡ slots_judged (keeps home.first home.bucket home.level) region.now count key }
 {
     if count <= FEW {
-        return slots_paired(region, count, first, bucket, level, key);
+        return slots_paired(region, count, home, key);
     }
     let mut latest = [0u8; FINGERPRINTS];
     let mut before = [0u8; address::MOST_SLOTS];
-    slots_chained(
-        region,
-        count,
-        first,
-        bucket,
-        level,
-        key,
-        &mut latest,
-        &mut before,
-    )
+    slots_chained(region, count, home, key, &mut latest, &mut before)
 }
 
 // Whether the slots from a number on are all zero, three words each.
@@ -211,14 +209,19 @@ pub fn judge(
     key: u64,
 ) -> Option<usize>
     requires { Room first level × (length region.now ≡ slot_at slots) × (slots ≤ most_slots) }
-    ensures { result ≡ cond (sound_with slots level (keeps first bucket level) region.now) (Some (slot_of region.now key))
-        None }
+    ensures { result ≡ cond (sound_with slots level (keeps first bucket level) region.now)
+        (Some (slot_of region.now key)) None }
 {
     if !head_sound(region, slots, level) {
         return None;
     }
     let count = layout::read2(region, 4) as usize;
-    let place = slots_sound(region, count, first, bucket, level, key)?;
+    let home = Home {
+        first,
+        bucket,
+        level,
+    };
+    let place = slots_sound(region, count, home, key)?;
     rest_zero(region, count, slots).then_some(place)
 }
 

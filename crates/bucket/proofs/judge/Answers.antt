@@ -11,7 +11,7 @@ pub rest_zero-requires : goal.rest_zero-requires
 rest_zero-requires c = (search rules, search rules, search count_few)
 
 pub slots_sound-requires : goal.slots_sound-requires
-slots_sound-requires c = (search rules, search count_within, search count_most)
+slots_sound-requires c = (search count_within, search count_most)
 
 pub returns-in_err-place : goal.returns-in_err-place
 returns-in_err-place c = search (slots_unsound, c.in_err-place.was)

@@ -11,7 +11,7 @@ use Rattle.bucket.proofs.slots_paired.Goals as goal
 pub loop-k-init : goal.loop-k-init
 loop-k-init c = let a = c.args in (
   omega arith,
-  all_none (fitting (keeps a.first a.bucket a.level) a.region.now),
+  all_none (fitting (keeps a.home.first a.home.bucket a.home.level) a.region.now),
   single_none a.region.now,
 )
 
