@@ -1,15 +1,14 @@
 // One bucket's region: judged, searched, and a ride placed in it.
 #![tactic(auto)]
 
-ghost use Rattle.std.specs.Prelude.{◌≡◌, ◌&&◌, not, cond, true, false, ℕ, ◌+◌, ◌*◌, ◌-◌, ◌≤◌, ◌<◌, eqb, length, drop};
-ghost use Rattle.std.specs.Prelude.{replicate};
+ghost use Rattle.std.specs.Prelude.{◌≡◌, ◌&&◌, cond, ◌+◌, ◌*◌, ◌≤◌, ◌<◌, length, drop, replicate, Some, None};
 ghost use Rattle.address.specs.Limits.{most_slots};
 ghost use Rattle.address.specs.Room.{Room};
 ghost use Rattle.address.specs.Rules.{keeps};
-ghost use Rattle.layout.specs.Bytes.{le_bytes, all_zero, first_from, edit};
+ghost use Rattle.layout.specs.Bytes.{le_bytes, all_zero, edit};
 ghost use Rattle.bucket.specs.Region.{slot_at, slot_used, key_at, head_sound, sound_with, slot_of, slot_bytes};
 ghost use Rattle.bucket.specs.Region.Single.{fingerprints, fingerprint, latest_of, Chained};
-ghost use Rattle.bucket.specs.Region.Single.{SlotsJudged, SoughtAt};
+ghost use Rattle.bucket.specs.Region.Single.{first_found, slots_judged, SoughtAt};
 
 // How many fingerprints of keys there are.
 const FINGERPRINTS: usize = 512;
@@ -36,36 +35,12 @@ pub fn key_at(region: &[u8], slot: usize) -> u64
     layout::read::<8>(region, 8 + 24 * slot + 2)
 }
 
-// The slot of the first ones that holds a key, and their count if none does.
-fn find(region: &[u8], count: usize, key: u64) -> usize
+// The first slot that holds a key, of the first ones.
+fn find(region: &[u8], count: usize, key: u64) -> Option<usize>
     requires { (slot_at count ≤ length region.now) × (count ≤ most_slots) }
-    ensures { result ≡ first_from (λ (k : ℕ). eqb (key_at region.now k) key) count 0 }
+    ensures { result ≡ first_found region.now count key }
 {
-    let mut k = 0;
-    while k < count {
-        if key_at(region, k) == key {
-            return k;
-        }
-        k = k + 1;
-    }
-    k
-}
-
-// Whether a region is sound, and then the slot that holds a key, or the count if none does.
-#[derive(Clone, Copy)]
-pub struct Judged {
-    pub sound: bool,
-    pub place: usize,
-}
-
-// The judgment of an unsound region.
-fn unsound() -> Judged
-    ensures { result.sound ≡ false }
-{
-    Judged {
-        sound: false,
-        place: 0,
-    }
+    (0..count).position(|k| key_at(region, k) == key)
 }
 
 // One number or another, by a test.
@@ -78,41 +53,47 @@ pub fn chosen(test: bool, one: usize, other: usize) -> usize
     other
 }
 
-// Whether a slot is marked and its key, which is given, belongs.
-fn slot_fits(region: &[u8], slot: usize, first: u32, bucket: u32, level: u32, key: u64) -> bool
-    requires { Room first level × (slot_at slot + 24 ≤ length region.now) × (slot < most_slots) }
-    ensures { result ≡ (slot_used region.now slot && keeps first bucket level key) }
-{
-    layout::has_mark(region, 8 + 24 * slot, b"LR") & (address::hash(first, level, key) == bucket)
-}
-
-// The same as `slots_sound`, each key compared with all before it.
-fn slots_paired(
-    region: &[u8],
-    count: usize,
+// A bucket by what decides which keys are its own: its number, its level and how many buckets a file starts with.
+#[derive(Clone, Copy)]
+struct Home {
     first: u32,
     bucket: u32,
     level: u32,
-    key: u64,
-) -> Judged
-    requires { Room first level × (slot_at count ≤ length region.now) × (count ≤ most_slots) }
-    ensures { SlotsJudged (keeps first bucket level) region.now count key result.sound result.place }
+    ghost room: { Room first level },
+}
+
+impl Home {
+    // Whether a key belongs.
+    fn keeps(self, key: u64) -> bool
+        ensures { result ≡ keeps self.first self.bucket self.level key }
+    {
+        address::hash(self.first, self.level, key) == self.bucket
+    }
+}
+
+// Whether a slot is marked and its key, which is given, belongs.
+fn slot_fits(region: &[u8], slot: usize, home: Home, key: u64) -> bool
+    requires { (slot_at slot + 24 ≤ length region.now) × (slot < most_slots) }
+    ensures { result ≡ (slot_used region.now slot && keeps home.first home.bucket home.level key) }
 {
-    let mut k = 0;
-    while k < count {
+    layout::has_mark(region, 8 + 24 * slot, b"LR") & home.keeps(key)
+}
+
+// The same as `slots_sound`, each key compared with all before it.
+fn slots_paired(region: &[u8], count: usize, home: Home, key: u64) -> Option<usize>
+    requires { (slot_at count ≤ length region.now) × (count ≤ most_slots) }
+    ensures { result ≡ slots_judged (keeps home.first home.bucket home.level) region.now count key }
+{
+    for k in 0..count {
         let held = key_at(region, k);
-        if !slot_fits(region, k, first, bucket, level, held) {
-            return unsound();
+        if !slot_fits(region, k, home, held) {
+            return None;
         }
-        if find(region, k, held) < k {
-            return unsound();
+        if find(region, k, held).is_some() {
+            return None;
         }
-        k = k + 1;
     }
-    Judged {
-        sound: true,
-        place: find(region, count, key),
-    }
+    Some(find(region, count, key).unwrap_or(count))
 }
 
 // A number, one of the fingerprints, that keys of different rides and lifts seldom share.
@@ -123,94 +104,71 @@ fn fingerprint(key: u64) -> usize
     (folded * 1640531527 / 8388608 % FINGERPRINTS as u64) as usize
 }
 
-// One more than a slot of the first ones that holds a key, and 0 if none does: of the key's fingerprint they are the
-// latest, one less than a number that is not 0, the one before that, and so on.
-fn seek(region: &[u8], before: &[u8], count: usize, latest: usize, key: u64) -> usize
+// A slot that holds a key, of the first ones: of the key's fingerprint they are the latest, one less than a number that
+// is not 0, the one before that, and so on.
+fn seek(
+    region: &[u8],
+    before: &[u8; address::MOST_SLOTS],
+    count: usize,
+    latest: usize,
+    key: u64,
+) -> Option<usize>
     requires { (slot_at count ≤ length region.now) × (count ≤ most_slots) × Chained region.now before.now count
         × (latest ≡ latest_of region.now (fingerprint key) count) }
     ensures { SoughtAt region.now key count result }
 {
     let mut next = latest;
-    while next != 0 {
-        let slot = next - 1;
+    while let Some(slot) = next.checked_sub(1) {
         if key_at(region, slot) == key {
-            return next;
+            return Some(slot);
         }
         next = before[slot] as usize;
     }
-    next
-}
-
-// The slot of one more than it, or the count.
-fn slot_before(found: usize, count: usize) -> usize
-    ensures { result ≡ cond (eqb found 0) count (found - 1) }
-{
-    if found == 0 {
-        return count;
-    }
-    found - 1
+    None
 }
 
 // The same as `slots_sound`, with tables to chain each slot to the latest before it of its key's fingerprint, where an
-// equal key would be met.
+// equal key would be met. They hold one more than a slot, and 0 for none, in a byte: they are cleared for each call.
 fn slots_chained(
     region: &[u8],
     count: usize,
-    first: u32,
-    bucket: u32,
-    level: u32,
+    home: Home,
     key: u64,
-    latest: &mut [u8],
-    before: &mut [u8],
-) -> Judged
-    requires { Room first level × (slot_at count ≤ length region.now) × (count ≤ most_slots)
-        × (latest.old ≡ replicate fingerprints 0) × (length before.old ≡ most_slots) }
-    ensures { SlotsJudged (keeps first bucket level) region.now count key result.sound result.place }
+    latest: &mut [u8; FINGERPRINTS],
+    before: &mut [u8; address::MOST_SLOTS],
+) -> Option<usize>
+    requires { (slot_at count ≤ length region.now) × (count ≤ most_slots) × (latest.old ≡ replicate fingerprints 0) }
+    ensures { result ≡ slots_judged (keeps home.first home.bucket home.level) region.now count key }
 {
-    let mut k = 0;
-    while k < count {
+    for k in 0..count {
         let held = key_at(region, k);
-        if !slot_fits(region, k, first, bucket, level, held) {
-            return unsound();
+        if !slot_fits(region, k, home, held) {
+            return None;
         }
         let mark = fingerprint(held);
         let next = latest[mark];
-        if seek(region, before, k, next as usize, held) != 0 {
-            return unsound();
+        if seek(region, before, k, next as usize, held).is_some() {
+            return None;
         }
         before[k] = next;
         latest[mark] = (k + 1) as u8;
-        k = k + 1;
     }
     let last = latest[fingerprint(key)];
-    let found = seek(region, before, count, last as usize, key);
-    Judged {
-        sound: true,
-        place: slot_before(found, count),
-    }
+    Some(seek(region, before, count, last as usize, key).unwrap_or(count))
 }
 
-// Whether each slot in use is marked, each key belongs and none stands twice: few keys are compared with one another,
-// many are chained.
-fn slots_sound(region: &[u8], count: usize, first: u32, bucket: u32, level: u32, key: u64) -> Judged
-    requires { Room first level × (slot_at count ≤ length region.now) × (count ≤ most_slots) }
-    ensures { SlotsJudged (keeps first bucket level) region.now count key result.sound result.place }
+// The slot that holds a key, or the count, if each slot in use is marked, each key belongs and none stands twice: few
+// keys are compared with one another, many are chained.
+fn slots_sound(region: &[u8], count: usize, home: Home, key: u64) -> Option<usize>
+    requires { (slot_at count ≤ length region.now) × (count ≤ most_slots) }
+    ensures { result ≡ slots_judged (keeps home.first home.bucket home.level) region.now count key }
 {
     if count <= FEW {
-        return slots_paired(region, count, first, bucket, level, key);
+        return slots_paired(region, count, home, key);
     }
     let mut latest = [0u8; FINGERPRINTS];
     let mut before = [0u8; address::MOST_SLOTS];
-    slots_chained(
-        region,
-        count,
-        first,
-        bucket,
-        level,
-        key,
-        &mut latest,
-        &mut before,
-    )
+    slots_chained(region, count, home, key, &mut latest, &mut before)
 }
 
 // Whether the slots from a number on are all zero, three words each.
@@ -219,14 +177,11 @@ fn slots_zero(region: &[u8], from: usize, slots: usize) -> bool
     ensures { result ≡ all_zero (drop (slot_at from) region.now) }
 {
     let mut seen = 0;
-    let mut k = from;
-    while k < slots {
+    for k in from..slots {
         let at = 8 + 24 * k;
-        seen = seen
-            | layout::read::<8>(region, at)
-            | layout::read::<8>(region, at + 8)
-            | layout::read::<8>(region, at + 16);
-        k = k + 1;
+        seen |= layout::read::<8>(region, at);
+        seen |= layout::read::<8>(region, at + 8);
+        seen |= layout::read::<8>(region, at + 16);
     }
     seen == 0
 }
@@ -243,24 +198,31 @@ fn rest_zero(region: &[u8], count: usize, slots: u32) -> bool
     layout::is_zero(&region[rest..])
 }
 
-// Judges a region as that of a bucket of a level, and finds a key in it.
-pub fn judge(region: &[u8], slots: u32, first: u32, bucket: u32, level: u32, key: u64) -> Judged
+// The slot that holds a key in a region that is sound as that of a bucket of a level, the count if none does; None if
+// the region is unsound.
+pub fn judge(
+    region: &[u8],
+    slots: u32,
+    first: u32,
+    bucket: u32,
+    level: u32,
+    key: u64,
+) -> Option<usize>
     requires { Room first level × (length region.now ≡ slot_at slots) × (slots ≤ most_slots) }
-    ensures { (result.sound ≡ sound_with slots level (keeps first bucket level) region.now)
-        × (result.sound ≡ true → result.place ≡ slot_of region.now key) }
+    ensures { result ≡ cond (sound_with slots level (keeps first bucket level) region.now)
+        (Some (slot_of region.now key)) None }
 {
     if !head_sound(region, slots, level) {
-        return unsound();
+        return None;
     }
     let count = layout::read::<2>(region, 4) as usize;
-    let judged = slots_sound(region, count, first, bucket, level, key);
-    if !judged.sound {
-        return unsound();
-    }
-    Judged {
-        sound: rest_zero(region, count, slots),
-        place: judged.place,
-    }
+    let home = Home {
+        first,
+        bucket,
+        level,
+    };
+    let place = slots_sound(region, count, home, key)?;
+    rest_zero(region, count, slots).then_some(place)
 }
 
 // Places a ride in the first free slot, and answers the count then held.

@@ -3,7 +3,7 @@
 
 mod fault;
 
-ghost use Rattle.std.specs.Prelude.{◌≡◌, true, false, ◌+◌, ◌≤◌, ◌<◌, length};
+ghost use Rattle.std.specs.Prelude.{◌≡◌, true, cond, ◌+◌, ◌≤◌, ◌<◌, length, Some, None};
 ghost use Rattle.address.specs.Limits.{most_buckets, most_slots};
 ghost use Rattle.layout.specs.Bytes.{all_zero};
 ghost use Rattle.bucket.specs.Region.{slot_at, count_of, key_at, slot_of};
@@ -13,7 +13,6 @@ ghost use Rattle.file.specs.File.{file_length, figures_fit, state_fits, fixed_by
 ghost use Rattle.file.specs.File.{most_of, buckets_of, start_of, region_of, bucket_sound_in, with_ride};
 
 use address::Image;
-use bucket::Judged;
 pub use fault::Fault;
 
 // The figures of a file's header.
@@ -140,12 +139,11 @@ pub fn region_zero(file: &[u8], header: Header, number: u32) -> bool
     layout::is_zero(region(file, header, number))
 }
 
-// Judges a bucket of a file, and finds a key in it. It takes numbers alone and cuts the region out itself: a struct, or
+// The slot that holds a key in a bucket of a file, the count if none does; None if the bucket is unsound. It takes numbers alone and cuts the region out itself: a struct, or
 // a part that is handed back, would go through memory.
-pub fn judge_bucket(file: &[u8], slots: u32, bucket: u32, level: u32, key: u64) -> Judged
+pub fn judge_bucket(file: &[u8], slots: u32, bucket: u32, level: u32, key: u64) -> Option<usize>
     requires { Standing file.now slots bucket level }
-    ensures { (result.sound ≡ bucket_sound_in file.now bucket)
-        × (result.sound ≡ true → result.place ≡ slot_of (region_of file.now bucket) key) }
+    ensures { result ≡ cond (bucket_sound_in file.now bucket) (Some (slot_of (region_of file.now bucket) key)) None }
 {
     let at = start(slots, bucket);
     let end = at + (8 + 24 * slots as usize);
@@ -165,7 +163,7 @@ pub fn bucket_sound(file: &[u8], header: Header, bucket: u32) -> bool
     ensures { result ≡ bucket_sound_in file.now bucket }
 {
     let level = header.state.level_of(address::FIRST_BUCKETS, bucket);
-    judge_bucket(file, header.slots, bucket, level, 0).sound
+    judge_bucket(file, header.slots, bucket, level, 0).is_some()
 }
 
 // How many rides a sound bucket holds.

@@ -124,23 +124,23 @@ fn walk_route(file: &[u8], header: Header, image: Image, key: u64) -> Result<End
     let state = header.state;
     let mut bucket = image.address(address::FIRST_BUCKETS, key);
     let mut walk = no_walk();
-    loop {
+    'walk: loop {
         walk = note(walk, bucket);
         let level = state.level_of(address::FIRST_BUCKETS, bucket);
         let judged = file::judge_bucket(file, header.slots, bucket, level, key);
-        let fate = address::fate_at(address::FIRST_BUCKETS, judged.sound, bucket, level, key);
-        match fate {
-            Fate::Keep => {
+        let fate = address::fate_at(address::FIRST_BUCKETS, judged.is_some(), bucket, level, key);
+        match (fate, judged) {
+            (Fate::Keep, Some(place)) => {
                 return Ok(End {
                     bucket,
-                    place: judged.place,
+                    place,
                     walk,
                 });
             }
-            Fate::SendOn(next) => {
+            (Fate::SendOn(next), _) => {
                 bucket = next;
             }
-            Fate::Unsound => {
+            _ => {
                 return Err(walk);
             }
         }

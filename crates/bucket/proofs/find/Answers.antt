@@ -1,16 +1,14 @@
--- `bucket::find`: the first slot from k on is the first of all, since none before k has the key.
-use native.Mathlib.Omega.{arith}
-use Rattle.bucket.specs.Region.Told.{find_start, find_here, find_later, find_none}
+-- `bucket::find`: the place in the range at which the test passes first is the slot itself.
+use Rattle.std.proofs.Common.{rules, ◌∙◌, eqb, refl, arith}
+use borrow.Author.Tests.{tests}
+use Rattle.std.proofs.lemmas.Iterator.{YieldsList-from_range}
+use Rattle.std.proofs.lemmas.Iterator.Search.{position_from_yields_List}
+use Rattle.bucket.specs.Region.{key_at}
+use Rattle.bucket.specs.Region.Single.{found_position}
 use Rattle.bucket.proofs.find.Goals as goal
 
-pub loop-k-init : goal.loop-k-init
-loop-k-init c = search find_start
-
-pub returns-then-key_at-key : goal.returns-then-key_at-key
-returns-then-key_at-key c = find_here _ _ _ _ c.loop-k.invariant (omega arith) c.key_at.ensures c.if-key_at-key.true
-
-pub loop-k-preserved : goal.loop-k-preserved
-loop-k-preserved c = search find_later
-
 pub returns : goal.returns
-returns c = find_none _ _ _ _ c.loop-k.invariant c.loop-k-test.false
+returns c = let a = c.args in
+    position_from_yields_List (λ k. eqb (key_at a.region.now k) a.key) _ _ _ c.position.ensures.ran
+    (YieldsList-from_range 0 a.count a.count refl (omega arith)) (λ x b q k. search (rules, tests))
+    ∙ found_position a.region.now a.count a.key

@@ -2,8 +2,8 @@
 use Rattle.bucket.specs.Region.Single.{Sought}
 use Rattle.bucket.proofs.seek.Given as goal
 
-abbrev pub invariant-loop-next : goal.invariant-loop-next
-invariant-loop-next l = Sought l.region l.key l.count l.next
+abbrev pub invariant-loop-slot : goal.invariant-loop-slot
+invariant-loop-slot l = Sought l.region l.key l.count l.next
 
-abbrev pub decreases-loop-next : goal.decreases-loop-next
-decreases-loop-next l = l.next
+abbrev pub decreases-loop-slot : goal.decreases-loop-slot
+decreases-loop-slot l = l.next

@@ -5,37 +5,34 @@ use Rattle.address.specs.Rules.{keeps}
 use Rattle.layout.specs.Bytes.Tests.{all_none}
 use Rattle.bucket.specs.Region.Judge.{fitting}
 use Rattle.bucket.specs.Region.Single.{chain_none}
-use Rattle.bucket.specs.Region.Told.{slot_unfit, wide_byte, chain_from, chained_double, slot_next}
-use Rattle.bucket.specs.Region.Told.{chain_next, chain_all, chain_last, chained_done}
+use Rattle.bucket.specs.Region.Told.{slot_unfit, chain_wide, chain_from, chained_double, slot_next}
+use Rattle.bucket.specs.Region.Told.{chain_next, chained_done}
 use Rattle.bucket.proofs.slots_chained.Goals as goal
 
 pub loop-k-init : goal.loop-k-init
 loop-k-init c = let a = c.args in (
-  all_none (fitting (keeps a.first a.bucket a.level) a.region.now),
+  all_none (fitting (keeps a.home.first a.home.bucket a.home.level) a.region.now),
   chain_none a.region.now
-      a.count a.latest.now a.before.now c.requires.3 c.requires.4,
+      a.count a.latest.now a.before.now c.requires.2 c.told-before,
 )
 
 pub returns-then-not-slot_fits : goal.returns-then-not-slot_fits
 returns-then-not-slot_fits c = search slot_unfit
 
 pub overflow_cast-next : goal.overflow_cast-next
-overflow_cast-next c = search wide_byte
+overflow_cast-next c = search chain_wide
 
 pub seek-requires : goal.seek-requires
 seek-requires c = (search rules, search rules, search rules, search chain_from)
 
-pub returns-then-seek-ne0 : goal.returns-then-seek-ne0
-returns-then-seek-ne0 c = search chained_double
+pub returns-then-is_some : goal.returns-then-is_some
+returns-then-is_some c = search chained_double
 
 pub loop-k-preserved : goal.loop-k-preserved
 loop-k-preserved c = (search slot_next, search chain_next)
 
 pub overflow_cast-last : goal.overflow_cast-last
-overflow_cast-last c = search wide_byte
-
-pub seek-found-requires : goal.seek-found-requires
-seek-found-requires c = (search rules, search rules, search chain_all, search chain_last)
+overflow_cast-last c = search chain_wide
 
 pub returns : goal.returns
 returns c = search chained_done

@@ -10,7 +10,7 @@ use Rattle.bucket.specs.Region.Single.{Chaining}
 use Rattle.bucket.proofs.slots_chained.Given as goal
 
 abbrev pub invariant-loop-k : goal.invariant-loop-k
-invariant-loop-k l = (all_below (fitting (keeps l.first l.bucket l.level) l.region) l.k ≡ true)
+invariant-loop-k l = (all_below (fitting (keeps l.home.first l.home.bucket l.home.level) l.region) l.k ≡ true)
     × Chaining l.region l.count l.k l.latest l.before
 
 abbrev pub decreases-loop-k : goal.decreases-loop-k

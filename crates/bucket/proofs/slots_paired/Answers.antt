@@ -11,21 +11,21 @@ use Rattle.bucket.proofs.slots_paired.Goals as goal
 pub loop-k-init : goal.loop-k-init
 loop-k-init c = let a = c.args in (
   omega arith,
-  all_none (fitting (keeps a.first a.bucket a.level) a.region.now),
+  all_none (fitting (keeps a.home.first a.home.bucket a.home.level) a.region.now),
   single_none a.region.now,
 )
 
 pub returns-then-not-slot_fits : goal.returns-then-not-slot_fits
 returns-then-not-slot_fits c = search slot_unfit
 
-pub returns-then-find-k : goal.returns-then-find-k
-returns-then-find-k c = search paired_double
+pub returns-then-is_some : goal.returns-then-is_some
+returns-then-is_some c = search paired_double
 
 pub loop-k-preserved : goal.loop-k-preserved
-loop-k-preserved c = let l = c.loop-k in (
+loop-k-preserved c = (
   omega arith,
   search slot_next,
-  paired_next _ _ l.invariant.2 c.key_at-held.ensures c.find.ensures c.if-find-k.false,
+  search paired_next,
 )
 
 pub returns : goal.returns

@@ -11,7 +11,7 @@ use Rattle.bucket.proofs.slots_paired.Given as goal
 
 abbrev pub invariant-loop-k : goal.invariant-loop-k
 invariant-loop-k l = (l.k ≤ l.count)
-    × (all_below (fitting (keeps l.first l.bucket l.level) l.region) l.k ≡ true)
+    × (all_below (fitting (keeps l.home.first l.home.bucket l.home.level) l.region) l.k ≡ true)
     × (distinct (keys_of (rides_from l.region 0 l.k)) ≡ true)
 
 abbrev pub decreases-loop-k : goal.decreases-loop-k

@@ -122,12 +122,19 @@ module _ (own : ℕ → Bool) (region : List ℕ) where
       ∙ sym (each_more n)
       ∙ ap each (add-one n)
 
+-- whether a key belongs, by its hash
+pub keeps_read : (N a j key : ℕ) {h : ℕ} → h ≡ hash N j key → eqb h a ≡ keeps N a j key
+keeps_read N a j key e = ap (λ (x : ℕ). eqb x a) e ∙ sym (keeps_is N a j key)
+
 -- one slot by what was read of it
+pub used_read : (region : List ℕ) (k : ℕ) {mark own is : Bool} → mark ≡ marked region (8 + 24 * k) (76 ∷ 82 ∷ [])
+    → own ≡ is → (mark && own) ≡ (slot_used region k && is)
+used_read region k em eo = ap₂ ◌&&◌ (em ∙ sym (used_is region k)) eo
+
 pub fits_read : (N a j : ℕ) (region : List ℕ) (k : ℕ) (mark : Bool) (key h : ℕ)
     → mark ≡ marked region (8 + 24 * k) (76 ∷ 82 ∷ []) → h ≡ hash N j key
     → (mark && eqb h a) ≡ (slot_used region k && keeps N a j key)
-fits_read N a j region k mark key h em eh = ap₂ ◌&&◌ (em ∙ sym (used_is region k))
-    (ap (λ (x : ℕ). eqb x a) eh ∙ sym (keeps_is N a j key))
+fits_read N a j region k mark key h em eh = used_read region k em (keeps_read N a j key eh)
 
 pub fits_told : (own : ℕ → Bool) (region : List ℕ) (k key : ℕ) (fits b : Bool) → fits ≡ (slot_used region k && own key)
     → key ≡ key_at region k → fits ≡ b → fitting own region k ≡ b

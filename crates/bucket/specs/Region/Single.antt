@@ -1,15 +1,20 @@
 -- No key stands twice, found in one pass: each slot is chained to the latest one before it whose key has the same
 -- fingerprint, so an equal key before it is met on its chain.
 use Rattle.std.specs.Prelude.{ℕ, zero, suc, ◌+◌, ◌*◌, ◌/◌, ◌%◌, ◌-◌, ◌≤◌, ◌<◌, ◌≡◌, refl, Bool, true, false, cond, not}
-use Rattle.std.specs.Prelude.{◌&&◌, List, ◌⊎◌, eqb, length, get_or, set, replicate}
-use Rattle.std.proofs.Common.{sym, ap, subst, ◌∙◌, true≢false, inl, inr, ⊎_elim, add-one, arith, eq-eqb, ne_eqb}
+use Rattle.std.specs.Prelude.{◌&&◌, List, ◌⊎◌, Option, Some, None, is_some, eqb, ltb, length, get_or, set, replicate}
+use Rattle.std.specs.Option.{unwrap_or}
+use Rattle.std.specs.List.{position, position_or_len, range_with_len}
+use Rattle.std.proofs.lemmas.List.FromFn.{length-range_with_len}
+use Rattle.std.proofs.Common.{sym, ap, ap₂, subst, ◌∙◌, true≢false, inl, inr, ⊎_elim, add-one, arith, eq-eqb, ne_eqb}
 use Rattle.std.proofs.Common.{eqb-true, length-set, get_or-set_same, get_or-set_other}
 use Rattle.std.proofs.lemmas.Bool.{false≢true}
+use Rattle.std.proofs.lemmas.Option.{none-some, same_Some, cond_some}
+use borrow.Author.Tests.{lt-ltb, le-ltb, ltb-true, ltb-false}
 use Rattle.std.proofs.lemmas.List.{length-replicate, get_or-replicate}
 use Rattle.address.specs.Limits.{most_slots}
 use Rattle.address.specs.Compare.{below, same}
 use Rattle.layout.specs.Bytes.{all_below, first_from}
-use Rattle.layout.specs.Bytes.Tests.{and_none, and_both, all_fails, first_within, first_before, first_passes}
+use Rattle.layout.specs.Bytes.Tests.{and_none, and_both, all_fails, first_here, first_later, first_none, first_within, first_before, first_passes}
 use Rattle.bucket.specs.Region.{slot_used, key_at, rides_from, keys_of, every, distinct}
 use Rattle.bucket.specs.Region.Rides.{distinct_append}
 use Rattle.bucket.specs.Region.Judge.{keys_more, fresh_from, stands, distinct_later, fitting, fits_all}
@@ -94,11 +99,10 @@ latest region mark (suc k) = go (latest region mark k)
             equal : (i : ℕ) → i < suc k → k ≤ i → k ≡ i
             equal i high l = omega arith
 
--- One more than a slot that holds a key, of the first ones, and 0 if none does.
-pub record SoughtAt (region : List ℕ) (key count found : ℕ) : Type 0 where
-  pub within : found ≤ count
-  pub none : found ≡ 0 → (i : ℕ) → i < count → key_at region i ≡ key → ⊥
-  pub here : (found ≡ 0 → ⊥) → key_at region (found - 1) ≡ key
+-- A slot that holds a key, of the first ones, and none if none does.
+pub record SoughtAt (region : List ℕ) (key count : ℕ) (found : Option ℕ) : Type 0 where
+  pub none : is_some found ≡ false → (i : ℕ) → i < count → key_at region i ≡ key → ⊥
+  pub here : (slot : ℕ) → found ≡ Some slot → (slot < count) × (key_at region slot ≡ key)
 
 -- ---- a key sought along its chain: the slots from `next` on do not hold it
 
@@ -145,44 +149,111 @@ module _ (region : List ℕ) (key count next : ℕ) (so : Sought region key coun
       at_last i high e h = ⊎_elim (λ (f : i ≡ next - 1). other (ap (key_at region) (sym f) ∙ e))
           (λ f. so.past i (omega (arith, f, h, back)) high e) (same i (next - 1))
 
-  pub sought_met : key_at region (next - 1) ≡ key → SoughtAt region key count next
-  sought_met e = record { within = so.within; none = λ z. absurd (some z); here = λ s. e }
+  pub sought_met : key_at region (next - 1) ≡ key → SoughtAt region key count (Some (next - 1))
+  sought_met e = record {
+    none = λ z. absurd (true≢false z);
+    here = λ slot is. (omega (arith, same_Some _ _ is, so.within, some), ap (key_at region) (sym (same_Some _ _ is)) ∙ e);
+  }
 
 pub sought_done : (region : List ℕ) (key count next : ℕ) → Sought region key count next → next ≡ 0
-    → SoughtAt region key count next
+    → SoughtAt region key count None
 sought_done region key count next so none =
     record {
-      within = so.within;
       none = λ z i high e. so.past i (omega arith) high e;
-      here = λ some. absurd (some none);
+      here = λ slot is. absurd (none-some slot is);
     }
 
 -- so it stands among the first slots, or it is fresh
-pub sought_stands : (region : List ℕ) (key count found : ℕ) → SoughtAt region key count found → (found ≡ 0 → ⊥)
+pub sought_stands : (region : List ℕ) (key count : ℕ) (found : Option ℕ) → SoughtAt region key count found
+    → is_some found ≡ true
     → false ≡ every (λ other. not (eqb other key)) (keys_of (rides_from region 0 count))
-sought_stands region key count found so some = sym
-    (stands region key 0 count (found - 1) (omega arith) (omega (arith, so.within, some)) (so.here some))
+sought_stands region key count (Some slot) so some = sym
+    (stands region key 0 count slot (omega arith) (omega (arith, (so.here slot refl).0)) (so.here slot refl).1)
+sought_stands region key count None so some = absurd (false≢true some)
 
-pub sought_fresh : (region : List ℕ) (key count found : ℕ) → SoughtAt region key count found → found ≡ 0
+pub sought_fresh : (region : List ℕ) (key count : ℕ) (found : Option ℕ) → SoughtAt region key count found
+    → is_some found ≡ false
     → true ≡ every (λ other. not (eqb other key)) (keys_of (rides_from region 0 count))
 sought_fresh region key count found so none = sym
     (fresh_from region key 0 count (λ i low high. ne_eqb (key_at region i) key (so.none none i (omega arith))))
 
 -- ---- one key more: fresh or met
 
--- a key that is not found among the first slots differs from all, and one that is found does not
-pub found_none : (region : List ℕ) (key k place : ℕ) → place ≡ first_from (λ i. eqb (key_at region i) key) k 0
-    → k ≤ place
-    → true ≡ every (λ other. not (eqb other key)) (keys_of (rides_from region 0 k))
-found_none region key k place e h = sym
-    (fresh_from region key 0 k (λ i low high. first_before (λ i. eqb (key_at region i) key) k 0 i low (omega arith)))
+-- The first slot that holds a key, of the first ones, and none if none does.
+pub first_found : List ℕ → ℕ → ℕ → Option ℕ
+first_found region count key =
+    let place = first_from (λ i. eqb (key_at region i) key) count 0 in cond (ltb place count) (Some place) None
 
-pub found_met : (region : List ℕ) (key k place : ℕ) → place ≡ first_from (λ i. eqb (key_at region i) key) k 0
-    → place < k
-    → false ≡ every (λ other. not (eqb other key)) (keys_of (rides_from region 0 k))
-found_met region key k place e h = sym
-    (stands region key 0 k (first_from (λ i. eqb (key_at region i) key) k 0) (omega arith) (omega arith)
-    (eqb-true _ key (first_passes (λ i. eqb (key_at region i) key) k 0 (omega arith))))
+-- the first of numbers from k on, as a place in their list
+position_from : (test : ℕ → Bool) (c k e : ℕ) → e ≡ k + c
+    → k + position_or_len test (range_with_len k c) ≡ first_from test (e - k) k
+position_from test zero k e is = omega (arith, first_none test e k (omega arith))
+position_from test (suc c) k e is = go (test k) refl (position_from test c (k + 1) e (omega arith))
+  where
+    rest : ℕ
+    rest = position_or_len test (range_with_len (k + 1) c)
+
+    go : (b : Bool) → test k ≡ b → k + 1 + rest ≡ first_from test (e - (k + 1)) (k + 1)
+        → k + cond (not b) (1 + rest) 0 ≡ first_from test (e - k) k
+    go true t so = omega (arith, first_here test e k (omega arith) t)
+    go false t so = omega (arith, first_later test e k (omega arith) t, so)
+
+module _ (region : List ℕ) (count key : ℕ) where
+  abbrev first : ℕ
+  first = first_from (λ i. eqb (key_at region i) key) count 0
+
+  -- the first of all is found, and if there is none nothing is
+  found_here : (k : ℕ) → k < count → k ≡ first → Some k ≡ first_found region count key
+  unfolding first_found
+  found_here k inside e = rw (sym e, lt-ltb k count inside)
+
+  found_nowhere : count ≤ first → None ≡ first_found region count key
+  unfolding first_found
+  found_nowhere h = rw (le-ltb first count h)
+
+  pub found_position : position (λ k. eqb (key_at region k) key) (range_with_len 0 count)
+      ≡ first_found region count key
+  unfolding first_found
+  found_position = ap₂ (λ (place n : ℕ). cond (ltb place n) (Some place) None)
+      (omega (
+        arith,
+        position_from (λ k. eqb (key_at region k) key) count 0 count (omega arith),
+        ap (λ (n : ℕ). first_from (λ k. eqb (key_at region k) key) n 0) whole,
+      ))
+      (length-range_with_len 0 count)
+    where
+      whole : count - 0 ≡ count
+      whole = omega arith
+
+  module _ {found : Option ℕ} (is : found ≡ first_found region count key) where
+    found_told : is_some found ≡ ltb first count
+    unfolding first_found
+    found_told = ap is_some is ∙ go (ltb first count)
+      where
+        go : (b : Bool) → is_some (cond b (Some first) None) ≡ b
+        go true = refl
+        go false = refl
+
+    -- its place, or the count
+    pub found_place : unwrap_or found count ≡ first
+    found_place = ⊎_elim
+        (λ l. ap (λ (o : Option ℕ). unwrap_or o count) (is ∙ sym (found_here first l refl)))
+        (λ l. ap (λ (o : Option ℕ). unwrap_or o count) (is ∙ sym (found_nowhere l))
+        ∙ omega (arith, l, first_within (λ i. eqb (key_at region i) key) count 0))
+        (below first count)
+
+    -- a key that is not found among the first slots differs from all, and one that is found does not
+    pub found_none : is_some found ≡ false
+        → true ≡ every (λ other. not (eqb other key)) (keys_of (rides_from region 0 count))
+    found_none h = let past : count ≤ first = ltb-false first count (sym found_told ∙ h) in sym
+        (fresh_from region key 0 count
+        (λ i low high. first_before (λ i. eqb (key_at region i) key) count 0 i low (omega (arith, past))))
+
+    pub found_met : is_some found ≡ true
+        → false ≡ every (λ other. not (eqb other key)) (keys_of (rides_from region 0 count))
+    found_met h = let inside : first < count = ltb-true first count (sym found_told ∙ h) in sym
+        (stands region key 0 count first (omega arith) (omega (arith, inside))
+        (eqb-true _ key (first_passes (λ i. eqb (key_at region i) key) count 0 (omega (arith, inside)))))
 
 module _ (region : List ℕ) (k : ℕ) (single : distinct (keys_of (rides_from region 0 k)) ≡ true)
     (fresh : Bool)
@@ -308,13 +379,10 @@ apart region count i j single low high e = true≢false (sym single ∙ distinct
     (stands region (key_at region j) 0 j i (omega arith) (omega arith) e)))
 
 -- the slot that a search along the chains gives
-pub place_sought : (region : List ℕ) (key count found place : ℕ) → SoughtAt region key count found
-    → place ≡ cond (eqb found 0) count (found - 1) → Placed region key count place
-place_sought region key count found place so e = ⊎_elim
-    (λ z. record { at = inl (e ∙ rw (eq-eqb found 0 z), so.none z) })
-    (λ z. let is : place ≡ found - 1 = e ∙ rw (ne_eqb found 0 z)
-    in record { at = inr (omega (arith, is, so.within, z), ap (key_at region) is ∙ so.here z) })
-    (same found 0)
+pub place_sought : (region : List ℕ) (key count : ℕ) (found : Option ℕ) → SoughtAt region key count found
+    → Placed region key count (unwrap_or found count)
+place_sought region key count None so = record { at = inl (refl, so.none refl) }
+place_sought region key count (Some slot) so = record { at = inr (so.here slot refl) }
 
 pub place_done : (region : List ℕ) (key count place : ℕ) → Placed region key count place
     → true ≡ distinct (keys_of (rides_from region 0 count))
@@ -347,42 +415,50 @@ place_done region key count place so single = ⊎_elim
         ∙ first_before (λ i. eqb (key_at region i) key) count 0 place (omega arith) m))) (λ m. omega (arith, m, h))
         (below place first)
 
--- ---- what a pass over the slots tells: whether each is marked, each key belongs and none stands twice, and then the
--- slot that holds a key, or the count
+-- ---- what a pass over the slots tells: the slot that holds a key, or the count, if each is marked, each key belongs and
+-- none stands twice
 
-pub record SlotsJudged (own : ℕ → Bool) (region : List ℕ) (count key : ℕ) (sound : Bool) (place : ℕ) : Type 0 where
-  pub tested : sound
-      ≡ (all_below (slot_used region) count && every own (keys_of (rides_from region 0 count))
-      && distinct (keys_of (rides_from region 0 count)))
-  pub found : sound ≡ true → place ≡ first_from (λ i. eqb (key_at region i) key) count 0
+abbrev pub slots_formed : (ℕ → Bool) → List ℕ → ℕ → Bool
+slots_formed own region count = all_below (slot_used region) count && every own (keys_of (rides_from region 0 count))
+    && distinct (keys_of (rides_from region 0 count))
+
+pub slots_judged : (ℕ → Bool) → List ℕ → ℕ → ℕ → Option ℕ
+slots_judged own region count key = cond (slots_formed own region count)
+    (Some (first_from (λ i. eqb (key_at region i) key) count 0)) None
 
 module _ (own : ℕ → Bool) (region : List ℕ) (count key : ℕ) where
-  -- a slot that does not fit makes it false, and a double key
-  pub slots_unfit : (sound : Bool) (place : ℕ) → sound ≡ false → (k : ℕ) → k < count → fitting own region k ≡ false
-      → SlotsJudged own region count key sound place
-  slots_unfit sound place bad k more unfit = record {
-    tested = bad ∙ sym (rw (sym (fits_all own region count) ∙ all_fails (fitting own region) count k more unfit));
-    found = λ e. absurd (false≢true (sym bad ∙ e));
-  }
+  -- a slot that does not fit makes it unsound, and a double key
+  pub slots_unfit : (k : ℕ) → k < count → fitting own region k ≡ false → None ≡ slots_judged own region count key
+  unfolding slots_judged
+  slots_unfit k more unfit = rw (sym (fits_all own region count) ∙ all_fails (fitting own region) count k more unfit)
 
-  pub slots_double : (sound : Bool) (place : ℕ) → sound ≡ false → false ≡ distinct (keys_of (rides_from region 0 count))
-      → SlotsJudged own region count key sound place
-  slots_double sound place bad double = record {
-    tested = bad
-        ∙ sym
-        (and_none (all_below (slot_used region) count && every own (keys_of (rides_from region 0 count))) _
-        (sym double));
-    found = λ e. absurd (false≢true (sym bad ∙ e));
-  }
+  pub slots_double : false ≡ distinct (keys_of (rides_from region 0 count)) → None ≡ slots_judged own region count key
+  unfolding slots_judged
+  slots_double double = rw
+      (and_none (all_below (slot_used region) count && every own (keys_of (rides_from region 0 count))) _ (sym double))
 
   pub slots_single : (k place : ℕ) → k ≤ count → count ≤ k → all_below (fitting own region) k ≡ true
       → true ≡ distinct (keys_of (rides_from region 0 count))
-      → place ≡ first_from (λ i. eqb (key_at region i) key) count 0 → SlotsJudged own region count key true place
-  slots_single k place within end fits single placed = record {
-    tested = sym
-        (and_both _ _ (sym (fits_all own region count) ∙ ap (all_below (fitting own region)) all ∙ fits) (sym single));
-    found = λ e. placed;
-  }
+      → place ≡ first_from (λ i. eqb (key_at region i) key) count 0 → Some place ≡ slots_judged own region count key
+  unfolding slots_judged
+  slots_single k place within end fits single placed = rw (sym placed, both)
     where
       all : count ≡ k
       all = omega arith
+
+      both : slots_formed own region count ≡ true
+      both = and_both _ _ (sym (fits_all own region count) ∙ ap (all_below (fitting own region)) all ∙ fits) (sym single)
+
+  -- and what the answer tells
+  pub slots_none : slots_judged own region count key ≡ None → slots_formed own region count ≡ false
+  unfolding slots_judged
+  slots_none e = go (slots_formed own region count) _ e
+    where
+      go : (b : Bool) (place : ℕ) → cond b (Some place) None ≡ None → b ≡ false
+      go true place e = absurd (none-some place (sym e))
+      go false place e = refl
+
+  pub slots_some : (place : ℕ) → slots_judged own region count key ≡ Some place
+      → (slots_formed own region count ≡ true) × (place ≡ first_from (λ i. eqb (key_at region i) key) count 0)
+  unfolding slots_judged
+  slots_some place e = let (good, is) = cond_some (slots_formed own region count) _ place e in (good, sym is)

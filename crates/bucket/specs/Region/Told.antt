@@ -1,9 +1,11 @@
 -- The judging functions by what their calls and tests told: each group follows its function in the source, with a law
 -- for each turn of its loop and each way out.
 use Rattle.std.specs.Prelude.{ℕ, ◌+◌, ◌*◌, ◌-◌, ◌≤◌, ◌<◌, ◌≡◌, refl, Bool, true, false, cond, not, ◌&&◌, List, eqb}
-use Rattle.std.specs.Prelude.{length, get_or, set, take, drop, replicate}
+use Rattle.std.specs.Prelude.{length, get_or, set, take, drop, replicate, Option, Some, None, is_some}
+use Rattle.std.specs.Option.{unwrap_or}
+use Rattle.std.specs.Bool.{then_some}
 use Rattle.std.proofs.Common.{sym, ap, ap₂, subst, ◌∙◌, arith, eq-eqb, ne_eqb, length-drop, Fits}
-use Rattle.std.proofs.lemmas.Bool.{false≢true, not-true, not-false}
+use Rattle.std.proofs.lemmas.Bool.{not-true, not-false}
 use borrow.Author.Rules.{part_to_end}
 use Rattle.std.specs.Int.Bits.{bit_or}
 use Rattle.std.proofs.lemmas.List.{length-replicate}
@@ -23,11 +25,12 @@ use Rattle.bucket.specs.Region.Judge.{judged_rest}
 use Rattle.bucket.specs.Region.Keep.{slot_is}
 use Rattle.bucket.specs.Region.Single.{fingerprints, fingerprint, latest_of, Chained, SoughtAt, Sought}
 use Rattle.bucket.specs.Region.Single.{sought_next}
-use Rattle.bucket.specs.Region.Single.{sought_met, sought_stands, sought_fresh, found_none, found_met}
+use Rattle.bucket.specs.Region.Single.{sought_met, sought_stands, sought_fresh, first_found}
+use Rattle.bucket.specs.Region.Single.{found_none, found_met, found_place}
 use Rattle.bucket.specs.Region.Single.{single_more}
 use Rattle.bucket.specs.Region.Single.{single_met, single_done, Chaining, chain_start, chain_met, chain_more}
 use Rattle.bucket.specs.Region.Single.{chain_whole, chain_done, place_sought, place_done}
-use Rattle.bucket.specs.Region.Single.{SlotsJudged, slots_unfit, slots_double, slots_single}
+use Rattle.bucket.specs.Region.Single.{slots_formed, slots_judged, slots_unfit, slots_double, slots_single, slots_none, slots_some}
 use Rattle.bucket.specs.Region.Write.{put_slot}
 
 -- a byte as a wide number
@@ -67,25 +70,33 @@ module _ (region : List ℕ) (count key k : ℕ) (so : Finding region count key 
 
 -- ---- a key sought along its chain
 
-module _ (region : List ℕ) (key count next : ℕ) (so : Sought region key count next) (some : next ≡ 0 → ⊥) {held : ℕ}
-    (is : held ≡ key_at region (next - 1)) where
-  pub seek_met : held ≡ key → SoughtAt region key count next
-  seek_met e = sought_met region key count next so some (sym is ∙ e)
+module _ (region : List ℕ) (key count next : ℕ) (so : Sought region key count next) {slot : ℕ}
+    (back : (1 ≤ next) × (slot ≡ next - 1)) {held : ℕ} (is : held ≡ key_at region slot) where
+  some : next ≡ 0 → ⊥
+  some none = omega (arith, none, back.0)
+
+  read : key_at region (next - 1) ≡ held
+  read = sym (is ∙ ap (key_at region) back.1)
+
+  pub seek_met : held ≡ key → SoughtAt region key count (Some slot)
+  seek_met e = subst (λ (n : ℕ). SoughtAt region key count (Some n)) (sym back.1)
+      (sought_met region key count next so some (read ∙ e))
 
   module _ (other : held ≡ key → ⊥) (before : List ℕ) (chained : Chained region before count) where
-    pub seek_next : Sought region key count (get_or before (next - 1) 0)
-    seek_next = (sought_next region key count next so some before chained (λ e. other (is ∙ e))).0
+    pub seek_next : Sought region key count (get_or before slot 0)
+    seek_next = subst (λ (n : ℕ). Sought region key count (get_or before n 0)) (sym back.1)
+        (sought_next region key count next so some before chained (λ e. other (sym read ∙ e))).0
 
-    pub seek_less : get_or before (next - 1) 0 < next
-    seek_less = (sought_next region key count next so some before chained (λ e. other (is ∙ e))).1
+    pub seek_less : get_or before slot 0 < next
+    seek_less = subst (λ (n : ℕ). get_or before n 0 < next) (sym back.1)
+        (sought_next region key count next so some before chained (λ e. other (sym read ∙ e))).1
 
 -- ---- one slot, with the key that was read of it: it fits or it does not
 
 module _ (N a j : ℕ) (region : List ℕ) (k : ℕ) {held : ℕ} (is : held ≡ key_at region k) {fits : Bool}
     (told : fits ≡ (slot_used region k && keeps N a j held)) where
-  pub slot_unfit : not fits ≡ true → (count key : ℕ) → k < count → {sound : Bool} {place : ℕ} → sound ≡ false
-      → SlotsJudged (keeps N a j) region count key sound place
-  slot_unfit bad count key more {sound} {place} e = slots_unfit (keeps N a j) region count key sound place e k more
+  pub slot_unfit : not fits ≡ true → (count key : ℕ) → k < count → None ≡ slots_judged (keeps N a j) region count key
+  slot_unfit bad count key more = slots_unfit (keeps N a j) region count key k more
       (fits_told (keeps N a j) region k held fits false told is (not-true fits bad))
 
   pub slot_next : not fits ≡ false → all_below (fitting (keeps N a j) region) k ≡ true
@@ -96,25 +107,25 @@ module _ (N a j : ℕ) (region : List ℕ) (k : ℕ) {held : ℕ} (is : held ≡
 -- ---- each key compared with all before it
 
 module _ (region : List ℕ) (k : ℕ) (so : distinct (keys_of (rides_from region 0 k)) ≡ true) where
-  module _ {held : ℕ} (is : held ≡ key_at region k) {place : ℕ}
-      (told : place ≡ first_from (λ i. eqb (key_at region i) held) k 0) where
-    found : place ≡ first_from (λ i. eqb (key_at region i) (key_at region k)) k 0
-    found = told ∙ ap (λ (x : ℕ). first_from (λ i. eqb (key_at region i) x) k 0) is
+  module _ {held : ℕ} (is : held ≡ key_at region k) {found : Option ℕ} (told : found ≡ first_found region k held)
+      {met : Bool} (asked : met ≡ is_some found) where
+    own_found : found ≡ first_found region k (key_at region k)
+    own_found = told ∙ ap (first_found region k) is
 
-    pub paired_double : place < k → (N a j count key : ℕ) → k < count → {sound : Bool} {at : ℕ} → sound ≡ false
-        → SlotsJudged (keeps N a j) region count key sound at
-    paired_double met N a j count key more {sound} {at} e = slots_double (keeps N a j) region count key sound at e
-        (single_met region k so false (found_met region (key_at region k) k place found met) refl count more)
+    pub paired_double : met ≡ true → (N a j count key : ℕ) → k < count
+        → None ≡ slots_judged (keeps N a j) region count key
+    paired_double e N a j count key more = slots_double (keeps N a j) region count key
+        (single_met region k so false (found_met region k (key_at region k) own_found (sym asked ∙ e)) refl count more)
 
-    pub paired_next : k ≤ place → distinct (keys_of (rides_from region 0 (k + 1))) ≡ true
-    paired_next none = single_more region k so true (found_none region (key_at region k) k place found none) refl
+    pub paired_next : met ≡ false → distinct (keys_of (rides_from region 0 (k + 1))) ≡ true
+    paired_next e = single_more region k so true (found_none region k (key_at region k) own_found (sym asked ∙ e)) refl
 
   pub paired_done : (N a j count key : ℕ) → k ≤ count → count ≤ k → all_below (fitting (keeps N a j) region) k ≡ true
-      → {place : ℕ} → place ≡ first_from (λ i. eqb (key_at region i) key) count 0
-      → SlotsJudged (keeps N a j) region count key true place
-  paired_done N a j count key within end fits {place} placed =
+      → {found : Option ℕ} → found ≡ first_found region count key → {place : ℕ} → place ≡ unwrap_or found count
+      → Some place ≡ slots_judged (keeps N a j) region count key
+  paired_done N a j count key within end fits told {place} e =
       slots_single (keeps N a j) region count key k place within end fits
-      (single_done region count k within end so) placed
+      (single_done region count k within end so) (e ∙ found_place region count key told)
 
 -- ---- each slot chained to the latest before it of its key's fingerprint
 
@@ -131,33 +142,38 @@ module _ (region : List ℕ) (count k : ℕ) {latests before : List ℕ} (so : C
     chain_last end = (chain_start region count count latests before (chain_whole region count k latests before so end)
         mark key is small).0
 
+    -- a place in a table of bytes
+    pub chain_wide : count ≤ most_slots → Fits w64 (get_or latests mark 0)
+    chain_wide few = record {
+      fits = omega (arith, (chain_start region count k latests before so mark key is small).1, so.within, few);
+    }
+
   pub chain_all : count ≤ k → Chained region before count
   chain_all end = (chain_whole region count k latests before so end).chained
 
-  module _ (more : k < count) (few : count ≤ most_slots) {held : ℕ} (is : held ≡ key_at region k) {found : ℕ}
-      (sought : SoughtAt region held k found) where
-    own : SoughtAt region (key_at region k) k found
-    own = subst (λ (x : ℕ). SoughtAt region x k found) is sought
+  module _ (more : k < count) (few : count ≤ most_slots) {held : ℕ} (is : held ≡ key_at region k) {found : Option ℕ}
+      (sought : SoughtAt region held k found) {met : Bool} (asked : met ≡ is_some found) where
+    own_sought : SoughtAt region (key_at region k) k found
+    own_sought = subst (λ (x : ℕ). SoughtAt region x k found) is sought
 
-    pub chained_double : (found ≡ 0 → ⊥) → (N a j key : ℕ) {sound : Bool} {at : ℕ} → sound ≡ false
-        → SlotsJudged (keeps N a j) region count key sound at
-    chained_double met N a j key {sound} {at} e = slots_double (keeps N a j) region count key sound at e
+    pub chained_double : met ≡ true → (N a j key : ℕ) → None ≡ slots_judged (keeps N a j) region count key
+    chained_double e N a j key = slots_double (keeps N a j) region count key
         (chain_met region count k latests before so more few false
-        (sought_stands region (key_at region k) k found own met) refl)
+        (sought_stands region (key_at region k) k found own_sought (sym asked ∙ e)) refl)
 
-    pub chain_next : found ≡ 0 → {mark : ℕ} → mark ≡ fingerprint held → mark < fingerprints
+    pub chain_next : met ≡ false → {mark : ℕ} → mark ≡ fingerprint held → mark < fingerprints
         → Chaining region count (k + 1) (set latests mark (k + 1)) (set before k (get_or latests mark 0))
     chain_next none {mark} e small = chain_more region count k latests before so more few true
-        (sought_fresh region (key_at region k) k found own none) refl mark (get_or latests mark 0)
+        (sought_fresh region (key_at region k) k found own_sought (sym asked ∙ none)) refl mark (get_or latests mark 0)
         (e ∙ ap fingerprint is) small refl
 
   pub chained_done : (N a j : ℕ) → all_below (fitting (keeps N a j) region) k ≡ true → count ≤ k
-      → (key : ℕ) {found place : ℕ} → SoughtAt region key count found → place ≡ cond (eqb found 0) count (found - 1)
-      → SlotsJudged (keeps N a j) region count key true place
-  chained_done N a j fits end key {found} {place} sought e = slots_single (keeps N a j) region count key k place
+      → (key : ℕ) {found : Option ℕ} → SoughtAt region key count found → {place : ℕ} → place ≡ unwrap_or found count
+      → Some place ≡ slots_judged (keeps N a j) region count key
+  chained_done N a j fits end key {found} sought {place} e = slots_single (keeps N a j) region count key k place
       so.within end fits
       (chain_done region count k latests before so end)
-      (place_done region key count place (place_sought region key count found place sought e)
+      (e ∙ place_done region key count (unwrap_or found count) (place_sought region key count found sought)
       (chain_done region count k latests before so end))
 
 -- ---- the unused slots: what was seen of them so far is zero if every byte of them is
@@ -215,13 +231,10 @@ rest_cut region count e = e ∙ ap all_zero (part_to_end region (slot_at count))
 
 -- ---- the whole region: head, slots and unused bytes in turn
 
-pub unsound_nowhere : {sound : Bool} → sound ≡ false → {place other : ℕ} → sound ≡ true → place ≡ other
-unsound_nowhere bad e = absurd (false≢true (sym bad ∙ e))
-
 module _ (S j : ℕ) (region : List ℕ) {head : Bool} (is : head ≡ head_sound S j region) where
-  pub head_unsound : not head ≡ true → (own : ℕ → Bool) {sound : Bool} → sound ≡ false
-      → sound ≡ sound_with S j own region
-  head_unsound bad own e = e ∙ judged_head S j own region head (le_at 2 region 4) is refl bad
+  pub head_unsound : not head ≡ true → (own : ℕ → Bool) (key : ℕ)
+      → None ≡ cond (sound_with S j own region) (Some (slot_of region key)) None
+  head_unsound bad own key = rw (sym (judged_head S j own region head (le_at 2 region 4) is refl bad))
 
   module _ (fine : not head ≡ false) {n : ℕ} (en : n ≡ le_at 2 region 4) where
     pub count_few : n ≤ S
@@ -233,19 +246,25 @@ module _ (S j : ℕ) (region : List ℕ) {head : Bool} (is : head ≡ head_sound
     pub count_most : S ≤ most_slots → n ≤ most_slots
     count_most h = omega (arith, count_few)
 
-    module _ {own : ℕ → Bool} {key : ℕ} {slots : Bool} {place : ℕ} (told : SlotsJudged own region n key slots place)
-      where
-        pub slots_unsound : not slots ≡ true → {sound : Bool} → sound ≡ false → sound ≡ sound_with S j own region
-        slots_unsound bad e = e ∙ judged_slots S j own region head n is en fine slots told.tested bad
+    module _ (own : ℕ → Bool) (key : ℕ) {judged : Option ℕ} (told : judged ≡ slots_judged own region n key) where
+      pub slots_unsound : judged ≡ None → {answer : Option ℕ} → answer ≡ None
+          → answer ≡ cond (sound_with S j own region) (Some (slot_of region key)) None
+      slots_unsound e {answer} none = none ∙ rw (sym (judged_slots S j own region head n is en fine (slots_formed own region n) refl
+          (ap not (slots_none own region n key (sym told ∙ e)))))
 
-        module _ (good : not slots ≡ false) where
-          pub rest_judged : {rest : Bool} → rest ≡ all_zero (drop (slot_at n) region)
-              → rest ≡ sound_with S j own region
-          rest_judged {rest} e = judged_rest S j own region head n is en fine slots told.tested good rest e
-
-          pub place_judged : {sound : Bool} → sound ≡ true → place ≡ slot_of region key
-          place_judged e = told.found (not-false slots good)
-              ∙ ap (λ (m : ℕ). first_from (λ i. eqb (key_at region i) key) m 0) en ∙ slot_is region key
+      pub rest_judged : {place : ℕ} → judged ≡ Some place → {rest : Bool}
+          → rest ≡ all_zero (drop (slot_at n) region) → {answer : Option ℕ} → answer ≡ then_some rest place
+          → answer ≡ cond (sound_with S j own region) (Some (slot_of region key)) None
+      rest_judged {place} found {rest} clean e =
+          let (good, at) = slots_some own region n key place (sym told ∙ found) in
+          e ∙ some_if rest place
+          ∙ ap₂ (λ (b : Bool) (x : ℕ). cond b (Some x) None)
+          (judged_rest S j own region head n is en fine (slots_formed own region n) refl (ap not good) rest clean)
+          (at ∙ ap (λ (m : ℕ). first_from (λ i. eqb (key_at region i) key) m 0) en ∙ slot_is region key)
+        where
+          some_if : (b : Bool) (x : ℕ) → then_some b x ≡ cond b (Some x) None
+          some_if true x = refl
+          some_if false x = refl
 
 -- ---- a ride placed: mark, key, payload and count, one written after the other
 

@@ -1,6 +1,6 @@
 -- `file::judge_bucket` judges the bucket's own region at its own level.
 use Rattle.file.specs.File.Region.{standing_slots, standing_low, standing_level, standing_fits}
-use Rattle.file.specs.File.Region.{standing_long, standing_judged, standing_place}
+use Rattle.file.specs.File.Region.{standing_long, standing_found}
 use Rattle.file.proofs.judge_bucket.Goals as goal
 
 pub start-at-requires : goal.start-at-requires
@@ -13,4 +13,4 @@ pub judge-requires : goal.judge-requires
 judge-requires c = (search standing_level, search standing_long, search standing_slots)
 
 pub returns : goal.returns
-returns c = (search standing_judged, λ e. search (standing_place, c.judge.ensures.1 e))
+returns c = search standing_found

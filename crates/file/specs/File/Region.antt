@@ -1,7 +1,7 @@
 -- Where the regions lie: within the file, one behind the other; how each is judged, and what check and view say of
 -- them.
 use Rattle.std.specs.Prelude.{ℕ, ◌+◌, ◌*◌, ◌-◌, ◌≤◌, ◌<◌, ◌≡◌, refl, Bool, true, false, cond, ◌&&◌, List, [], ◌∷◌, ltb}
-use Rattle.std.specs.Prelude.{eqb, length, drop, Some, None}
+use Rattle.std.specs.Prelude.{eqb, length, drop, Option, Some, None, is_some}
 use Rattle.std.proofs.Math.Path.{sym, ap, ap₂}
 use Rattle.std.proofs.Common.{◌∙◌, mul-le-mul, mul-le-mul_right}
 use Rattle.std.proofs.Math.Bool.{not}
@@ -163,6 +163,21 @@ module _ (file : List ℕ) {S a l : ℕ} (standing : Standing file S a l) where
         → slot ≡ slot_of (take (place + (8 + 24 * S) - place) (drop place file)) key
         → slot ≡ slot_of (region_of file a) key
     standing_place key e = e ∙ ap (λ (bytes : List ℕ). slot_of bytes key) cut
+
+    -- both as one answer
+    pub standing_found : {judged : Option ℕ} (key : ℕ)
+        → judged
+        ≡ cond (sound_with S l (keeps first_buckets a l) (take (place + (8 + 24 * S) - place) (drop place file)))
+        (Some (slot_of (take (place + (8 + 24 * S) - place) (drop place file)) key)) None
+        → judged ≡ cond (bucket_sound_in file a) (Some (slot_of (region_of file a) key)) None
+    standing_found key e = e
+        ∙ ap₂ (λ (b : Bool) (slot : ℕ). cond b (Some slot) None) (standing_judged refl) (standing_place key refl)
+
+-- an answer that stands for a test and a value
+pub some_told : {judged : Option ℕ} {sound : Bool} (b : Bool) (x : ℕ) → judged ≡ cond b (Some x) None
+    → sound ≡ is_some judged → sound ≡ b
+some_told true x e told = told ∙ ap is_some e
+some_told false x e told = told ∙ ap is_some e
 
 -- a region by its cases
 pub region_bucket : (file : List ℕ) (a : ℕ) → a < buckets_of file → region_sound file a ≡ bucket_sound_in file a

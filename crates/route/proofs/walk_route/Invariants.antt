@@ -4,9 +4,9 @@ use Prim.Native.Nat.{◌≤◌, ◌-◌}
 use Rattle.route.specs.Way.Route.{Walking, way_from}
 use Rattle.route.proofs.walk_route.Given as goal
 
-abbrev pub invariant-loop-next : goal.invariant-loop-next
-invariant-loop-next l = (l.walk.count ≤ 2)
+abbrev pub invariant-walk : goal.invariant-walk
+invariant-walk l = (l.walk.count ≤ 2)
     × Walking l.file l.key (way_from l.file l.key l.initial.bucket) l.walk l.bucket
 
-abbrev pub decreases-loop-next : goal.decreases-loop-next
-decreases-loop-next l = 3 - l.walk.count
+abbrev pub decreases-walk : goal.decreases-walk
+decreases-walk l = 3 - l.walk.count

@@ -1,6 +1,8 @@
 -- A route walked bucket by bucket: what is noted so far and what is still to come are the whole route, cut after its
 -- first unsound bucket.
 use Rattle.std.specs.Prelude.{ℕ, suc, ◌+◌, ◌-◌, ◌≤◌, ◌<◌, ◌≡◌, refl, Bool, true, false, cond, not}
+use Rattle.std.specs.Prelude.{Option, Some, None, is_some}
+use Rattle.std.proofs.lemmas.Option.{cond_some}
 use Rattle.std.proofs.Common.{sym, ap₂, subst, ◌∙◌, ⊎_elim, arith}
 use Rattle.std.proofs.Math.Path.{ap}
 use mathlib.Core.List.{List, [], ◌∷◌, ◌++◌, append_assoc}
@@ -15,6 +17,7 @@ use Rattle.address.specs.declared.Fate.TheVariants.{Keep, SendOn, Unsound}
 use Rattle.address.specs.Rules.Address.{address_own}
 use Rattle.address.specs.Rules.Route.{Reaches, kept, sent, reaches, reaches_room, route_is, route_kept, route_sent}
 use Rattle.bucket.specs.Region.{slot_of, every}
+use Rattle.file.specs.File.Region.{some_told}
 use Rattle.bucket.specs.Region.Every.{every_none, every_first, every_rest, every_next, every_fails, every_past}
 use Rattle.file.specs.File.{state_of, buckets_of, region_of, bucket_sound_in}
 use Rattle.file.specs.File.Judge.{Known, buckets_of_lem}
@@ -265,21 +268,29 @@ module _ {file : List ℕ} {header : Header} (seen : Known file header) where
 
   module _ {way : List ℕ} {key : ℕ} {walk : Walk} {a : ℕ} (so : Walking file key way walk a) (next : Walk)
       (noting : noted next ≡ noted walk ++ (a ∷ [])) (counted : next.count ≡ walk.count + 1) where
-    module _ {sound : Bool} (es : sound ≡ bucket_sound_in file a) {l : ℕ} (el : l ≡ level first_buckets header.state a)
-        {f : Fate} (ef : f ≡ fate first_buckets sound a l key) where
+    module _ {judged : Option ℕ}
+        (is : judged ≡ cond (bucket_sound_in file a) (Some (slot_of (region_of file a) key)) None) {sound : Bool}
+        (asked : sound ≡ is_some judged) {l : ℕ} (el : l ≡ level first_buckets header.state a) {f : Fate}
+        (ef : f ≡ fate first_buckets sound a l key) where
+      es : sound ≡ bucket_sound_in file a
+      es = some_told (bucket_sound_in file a) (slot_of (region_of file a) key) is asked
+
       at_level : level first_buckets (state_of file) a ≡ l
       at_level = sym (el ∙ ap (λ (s : Image). level first_buckets s a) seen.state)
 
-      pub walk_keeps : {place : ℕ} → (sound ≡ true → place ≡ slot_of (region_of file a) key) → f ≡ Keep
-          → Walked file key way next a place 0
-      walk_keeps ep e =
+      pub walk_keeps : {place : ℕ} → judged ≡ Some place → f ≡ Keep → Walked file key way next a place 0
+      walk_keeps {place} found e =
           let (good, keeps) = fate_kept first_buckets a l key sound (sym ef ∙ e) in
           walk_kept file key seen.ranges.formed way walk next a so noting counted (sym es ∙ good)
-          (ap (λ (k : ℕ). hash first_buckets k key) at_level ∙ keeps) (ep good)
+          (ap (λ (k : ℕ). hash first_buckets k key) at_level ∙ keeps) (sym (cond_some (bucket_sound_in file a) _ place (sym is ∙ found)).1)
 
       pub walk_stops : {place : ℕ} → f ≡ Unsound → Walked file key way next a place 7
       walk_stops e = walk_stopped file key seen.ranges.formed way walk next a so noting counted
           (sym es ∙ fate_stopped first_buckets a l key sound (sym ef ∙ e))
+
+      pub walk_lost : {place : ℕ} → judged ≡ None → Walked file key way next a place 7
+      walk_lost none = walk_stopped file key seen.ranges.formed way walk next a so noting counted
+          (sym es ∙ asked ∙ ap is_some none)
 
       sends : {b : ℕ} → f ≡ SendOn b → Walking file key way next b × (next.count ≤ 2)
       sends {b} e =
