@@ -7,7 +7,7 @@ ghost use Rattle.commands.specs.Text.{number_of, number_from, place_of, line_end
 ghost use Rattle.commands.specs.Text.{command_of};
 
 // What a line asks for: a split; an insert or a search by client and key; a scan by client and lift.
-#[derive(Clone, Copy)]
+#[derive(Clone, Copy, Debug, PartialEq, Eq)]
 pub enum Command {
     Split,
     Insert(u64, u64),
@@ -16,16 +16,9 @@ pub enum Command {
     Unknown,
 }
 
-// What a field is where a number is due.
-#[derive(Clone, Copy)]
-enum Number {
-    Value(u64),
-    Malformed,
-}
+const MOST: u64 = u64::MAX;
 
-const MOST: u64 = 18446744073709551615;
-
-const MOST_LIFT: u64 = 4294967295;
+const MOST_LIFT: u64 = u32::MAX as u64;
 
 // The place of the first such byte at or after a place, or the end.
 fn find(bytes: &[u8], from: usize, byte: u8) -> usize
@@ -51,56 +44,36 @@ pub fn line_end(input: &[u8], from: usize) -> usize
 }
 
 // The number that a field's digits spell, if it is at most `most`.
-fn read_digits(field: &[u8], most: u64) -> Number
+fn read_digits(field: &[u8], most: u64) -> Option<u64>
     ensures { result ≡ number_from (most + 1) 0 field.now }
 {
     let mut value: u64 = 0;
-    let mut i = 0;
-    while i < field.len() {
-        let byte = field[i];
-        if byte < b'0' {
-            return Number::Malformed;
+    for byte in field {
+        if !byte.is_ascii_digit() {
+            return None;
         }
-        if b'9' < byte {
-            return Number::Malformed;
-        }
-        let digit = layout::wide(byte) - 48;
-        if most / 10 < value {
-            return Number::Malformed;
-        }
-        if most - value * 10 < digit {
-            return Number::Malformed;
-        }
-        value = value * 10 + digit;
-        i += 1;
+        value = value.checked_mul(10)?.checked_add(u64::from(*byte - b'0'))?;
     }
-    Number::Value(value)
+    (value <= most).then_some(value)
 }
 
 // The number that a field is, without spare zeros and at most `most`.
-fn read_number(field: &[u8], most: u64) -> Number
+fn read_number(field: &[u8], most: u64) -> Option<u64>
     ensures { result ≡ number_of (most + 1) field.now }
 {
-    if field.len() == 0 {
-        return Number::Malformed;
+    match field {
+        [] => None,
+        [_] => read_digits(field, most),
+        [first, ..] if *first == b'0' => None,
+        _ => read_digits(field, most),
     }
-    if field.len() == 1 {
-        return read_digits(field, most);
-    }
-    if field[0] == b'0' {
-        return Number::Malformed;
-    }
-    read_digits(field, most)
 }
 
 // The greatest second number of a letter's command.
 fn most_after(letter: u8) -> u64
     ensures { result + 1 ≡ limit_after letter }
 {
-    if letter == b'A' {
-        return MOST_LIFT;
-    }
-    MOST
+    if letter == b'A' { MOST_LIFT } else { MOST }
 }
 
 // The command of a letter and two numbers.
@@ -108,29 +81,22 @@ fn command_named(letter: u8, client: u64, number: u64) -> Command
     requires { number < limit_after letter }
     ensures { result ≡ named letter client number }
 {
-    if letter == b'I' {
-        return Command::Insert(client, number);
+    match letter {
+        b'I' => Command::Insert(client, number),
+        b'S' => Command::Search(client, number),
+        b'A' => Command::Scan(client, number as u32),
+        _ => Command::Unknown,
     }
-    if letter == b'S' {
-        return Command::Search(client, number);
-    }
-    if letter == b'A' {
-        return Command::Scan(client, number as u32);
-    }
-    Command::Unknown
 }
 
 // The command of a letter and two fields.
 fn command_of(letter: u8, one: &[u8], two: &[u8]) -> Command
     ensures { result ≡ of_numbers letter one.now two.now }
 {
-    let Number::Value(client) = read_number(one, MOST) else {
-        return Command::Unknown;
-    };
-    let Number::Value(number) = read_number(two, most_after(letter)) else {
-        return Command::Unknown;
-    };
-    command_named(letter, client, number)
+    match (read_number(one, MOST), read_number(two, most_after(letter))) {
+        (Some(client), Some(number)) => command_named(letter, client, number),
+        _ => Command::Unknown,
+    }
 }
 
 // The command that a line is.
