@@ -103,20 +103,10 @@ fn command_of(letter: u8, one: &[u8], two: &[u8]) -> Command
 pub fn read_command(line: &[u8]) -> Command
     ensures { result ≡ command_of line.now }
 {
-    if find(line, 0, b' ') != 1 {
-        return Command::Unknown;
+    let mut fields = line.split(|byte| *byte == b' ');
+    match (fields.next(), fields.next(), fields.next(), fields.next()) {
+        (Some([letter]), None, ..) if *letter == b'G' => Command::Split,
+        (Some([letter]), Some(one), Some(two), None) => command_of(*letter, one, two),
+        _ => Command::Unknown,
     }
-    let letter = line[0];
-    if line.len() == 1 {
-        if letter == b'G' {
-            return Command::Split;
-        }
-        return Command::Unknown;
-    }
-    let end = find(line, 2, b' ');
-    if end == line.len() {
-        return Command::Unknown;
-    }
-    let next = end + 1;
-    command_of(letter, &line[2..end], &line[next..])
 }
