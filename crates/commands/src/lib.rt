@@ -2,8 +2,9 @@
 // the grammar.
 #![tactic(auto)]
 
-ghost use Rattle.std.specs.Prelude.{◌≡◌, ◌+◌, ◌≤◌, ◌<◌, length};
-ghost use Rattle.commands.specs.Text.{number_of, number_from, place_of, line_end, limit_after, named, of_numbers};
+ghost use Rattle.std.specs.Prelude.{◌≡◌, ◌+◌, ◌≤◌, ◌<◌, length, MatchOption, HoldsAt, ◌≢◌};
+ghost use Rattle.std.specs.List.{AllWithin};
+ghost use Rattle.commands.specs.Text.{number_of, number_from, line_end, limit_after, named, of_numbers};
 ghost use Rattle.commands.specs.Text.{command_of};
 
 // What a line asks for: a split; an insert or a search by client and key; a scan by client and lift.
@@ -20,27 +21,24 @@ const MOST: u64 = u64::MAX;
 
 const MOST_LIFT: u64 = u32::MAX as u64;
 
-// The place of the first such byte at or after a place, or the end.
-fn find(bytes: &[u8], from: usize, byte: u8) -> usize
-    requires { from ≤ length bytes.now }
-    ensures { (result ≡ place_of byte bytes.now from) × (from ≤ result) × (result ≤ length bytes.now) }
+// The place of the first such byte, if there is one.
+fn find(bytes: &[u8], byte: u8) -> Option<usize>
+    ensures { MatchOption result (AllWithin (λ x. x ≢ byte) bytes.now 0 (length bytes.now))
+        (λ i. (i < length bytes.now) × HoldsAt (λ x. x ≡ byte) bytes.now i × AllWithin (λ x. x ≢ byte) bytes.now 0 i) }
 {
-    let mut i = from;
-    while i < bytes.len() {
-        if bytes[i] == byte {
-            return i;
-        }
-        i += 1;
-    }
-    i
+    bytes.iter().position(|other| *other == byte)
 }
 
-// The place of the line feed that ends the line which starts at a place, or the input's end.
-pub fn line_end(input: &[u8], from: usize) -> usize
+// The place of the line feed that ends the line which starts at a place, if there is one.
+pub fn line_end(input: &[u8], from: usize) -> Option<usize>
     requires { from ≤ length input.now }
-    ensures { (result ≡ line_end input.now from) × (from ≤ result) × (result ≤ length input.now) }
+    ensures { MatchOption result (line_end input.now from ≡ length input.now)
+        (λ end. (end ≡ line_end input.now from) × (from ≤ end) × (end < length input.now)) }
 {
-    find(input, from, b'\n')
+    match find(&input[from..], b'\n') {
+        Some(more) => Some(from + more),
+        None => None,
+    }
 }
 
 // The number that a field's digits spell, if it is at most `most`.

@@ -1,4 +1,5 @@
 -- `turn::run_scan`: what scan told, and the line of it; its visits fit the list.
+use Rattle.std.proofs.Common.{rules}
 use Rattle.turn.specs.Session.Laws.{visits_few, visits_taken, visits_room, scan_done}
 use Rattle.turn.proofs.run_scan.Goals as goal
 
@@ -12,4 +13,4 @@ pub put_scan-requires : goal.put_scan-requires
 put_scan-requires c = search visits_room
 
 pub returns : goal.returns
-returns c = search scan_done
+returns c = search (rules, scan_done)
