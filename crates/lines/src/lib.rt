@@ -23,17 +23,17 @@ pub struct Text<'a> {
 }
 
 impl<'a> Text<'a> {
-    // A text of which nothing is written yet.
-    pub fn new(out: &'a mut [u8]) -> Text<'a>
+    // A text that is written from a place of a buffer on.
+    pub fn new(out: &'a mut [u8], at: usize) -> Text<'a>
         ensures same { result.out.ghost_name ≡ out.entry.ghost_name }
         ensures bytes { result.out.now ≡ out.old }
-        ensures start { result.at ≡ 0 }
+        ensures start { result.at ≡ at }
     {
-        Text { out, at: 0 }
+        Text { out, at }
     }
 
-    // How many bytes are written.
-    pub fn len(&self) -> usize
+    // The place after what is written.
+    pub fn end(&self) -> usize
         ensures { result ≡ self.now.at }
     {
         self.at

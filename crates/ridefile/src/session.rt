@@ -14,7 +14,7 @@ fn run_lines(input: &[u8], file: &mut [u8], table: &mut [u8], out: &mut [u8]) ->
         (printed_from file.old table.old (pieces line_feed input.now)) out.old
         out.new result }
 {
-    let mut text = Text::new(out);
+    let mut text = Text::new(out, 0);
     let mut from = 0;
     while let Some(end) = commands::line_end(input, from) {
         turn::run_line(&input[from..end], file, table, &mut text);
@@ -23,7 +23,7 @@ fn run_lines(input: &[u8], file: &mut [u8], table: &mut [u8], out: &mut [u8]) ->
     if from < input.len() {
         text.put_unknown();
     }
-    text.len()
+    text.end()
 }
 
 // Makes the file and its clients, runs an input on them, and writes what is printed.

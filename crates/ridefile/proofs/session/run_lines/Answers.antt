@@ -6,8 +6,9 @@ use Rattle.ridefile.proofs.session.run_lines.Goals.{then-from-input, else-from-i
 use Rattle.ridefile.proofs.session.run_lines.Goals as goal
 
 pub loop-end-init : goal.loop-end-init
-loop-end-init c = let a = c.args
-    in let start = printing_none a.input.now a.file.now a.table.now c.new-text.result.out.now in search rules
+loop-end-init c = let a = c.args in
+    let start = printing_none a.input.now a.file.now a.table.now c.new-text.result.out.now in
+    search rules
 
 pub run_line-requires : goal.run_line-requires
 run_line-requires c = line_end_room c.loop-end.invariant.0 c.requires (ap length c.new-text.ensures.bytes)
