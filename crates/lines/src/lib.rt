@@ -36,7 +36,8 @@ impl<'a> Text<'a> {
     pub fn end(&self) -> usize
         ensures { result ≡ self.now.at }
     {
-        self.at
+        let Text { at, .. } = self;
+        *at
     }
 
     // Writes one byte.
