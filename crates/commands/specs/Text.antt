@@ -3,17 +3,16 @@
 pub mod Decimal
 pub mod Examples
 pub mod Fields
+pub mod Parts
 pub mod Pieces
 pub mod Reading
 pub mod Spelling
 use Rattle.std.specs.Prelude.{ℕ, ◌+◌, ◌-◌, ◌*◌, ◌^◌, Bool, true, false, cond, not, ◌&&◌, List, [], ◌∷◌, leb, ltb, eqb}
-use Rattle.std.specs.Prelude.{length}
+use Rattle.std.specs.Prelude.{length, Option, Some, None}
 use Rattle.layout.specs.Bytes.{byte_at, first_from}
 use Rattle.lines.specs.Bytes.{line_feed, space, digit0, digit9, letter_a, letter_g, letter_i, letter_s}
 use Rattle.commands.specs.declared.Command.{Command}
 use Rattle.commands.specs.declared.Command.TheVariants.{Split, Insert, Search, Scan, Unknown}
-use Rattle.commands.specs.declared.Number.{Number}
-use Rattle.commands.specs.declared.Number.TheVariants.{Value, Malformed}
 
 -- Decimal: every byte is a digit.
 pub all_digits : List ℕ → Bool
@@ -40,12 +39,12 @@ pub is_number : ℕ → List ℕ → Bool
 is_number limit bs = all_digits bs && no_spare_zero bs && ltb (value bs) limit
 
 -- The number that digits spell after others that spell v, if it is below a limit.
-pub number_from : ℕ → ℕ → List ℕ → Number
-number_from limit v bs = cond (all_digits bs && ltb (spelled v bs) limit) (Value (spelled v bs)) Malformed
+pub number_from : ℕ → ℕ → List ℕ → Option ℕ
+number_from limit v bs = cond (all_digits bs && ltb (spelled v bs) limit) (Some (spelled v bs)) None
 
 -- What is read of a field where a number is due.
-pub number_of : ℕ → List ℕ → Number
-number_of limit bs = cond (is_number limit bs) (Value (value bs)) Malformed
+pub number_of : ℕ → List ℕ → Option ℕ
+number_of limit bs = cond (is_number limit bs) (Some (value bs)) None
 
 -- The place of the first b at or after a place, or the end.
 abbrev pub place_of : ℕ → List ℕ → ℕ → ℕ

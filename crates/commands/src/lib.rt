@@ -2,12 +2,13 @@
 // the grammar.
 #![tactic(auto)]
 
-ghost use Rattle.std.specs.Prelude.{◌≡◌, ◌+◌, ◌≤◌, ◌<◌, length};
-ghost use Rattle.commands.specs.Text.{number_of, number_from, place_of, line_end, limit_after, named, of_numbers};
+ghost use Rattle.std.specs.Prelude.{◌≡◌, ◌+◌, ◌≤◌, ◌<◌, length, MatchOption, HoldsAt, ◌≢◌};
+ghost use Rattle.std.specs.List.{AllWithin};
+ghost use Rattle.commands.specs.Text.{number_of, number_from, line_end, limit_after, named, of_numbers};
 ghost use Rattle.commands.specs.Text.{command_of};
 
 // What a line asks for: a split; an insert or a search by client and key; a scan by client and lift.
-#[derive(Clone, Copy)]
+#[derive(Clone, Copy, Debug, PartialEq, Eq)]
 pub enum Command {
     Split,
     Insert(u64, u64),
@@ -16,91 +17,61 @@ pub enum Command {
     Unknown,
 }
 
-// What a field is where a number is due.
-#[derive(Clone, Copy)]
-enum Number {
-    Value(u64),
-    Malformed,
-}
+const MOST: u64 = u64::MAX;
 
-const MOST: u64 = 18446744073709551615;
+const MOST_LIFT: u64 = u32::MAX as u64;
 
-const MOST_LIFT: u64 = 4294967295;
-
-// The place of the first such byte at or after a place, or the end.
-fn find(bytes: &[u8], from: usize, byte: u8) -> usize
-    requires { from ≤ length bytes.now }
-    ensures { (result ≡ place_of byte bytes.now from) × (from ≤ result) × (result ≤ length bytes.now) }
+// The place of the first such byte, if there is one.
+fn find(bytes: &[u8], byte: u8) -> Option<usize>
+    ensures { MatchOption result (AllWithin (λ x. x ≢ byte) bytes.now 0 (length bytes.now))
+        (λ i. (i < length bytes.now) × HoldsAt (λ x. x ≡ byte) bytes.now i × AllWithin (λ x. x ≢ byte) bytes.now 0 i) }
 {
-    let mut i = from;
-    while i < bytes.len() {
-        if bytes[i] == byte {
-            return i;
-        }
-        i += 1;
-    }
-    i
+    bytes.iter().position(|other| *other == byte)
 }
 
-// The place of the line feed that ends the line which starts at a place, or the input's end.
-pub fn line_end(input: &[u8], from: usize) -> usize
+// The place of the line feed that ends the line which starts at a place, if there is one.
+pub fn line_end(input: &[u8], from: usize) -> Option<usize>
     requires { from ≤ length input.now }
-    ensures { (result ≡ line_end input.now from) × (from ≤ result) × (result ≤ length input.now) }
+    ensures { MatchOption result (line_end input.now from ≡ length input.now)
+        (λ end. (end ≡ line_end input.now from) × (from ≤ end) × (end < length input.now)) }
 {
-    find(input, from, b'\n')
+    match find(&input[from..], b'\n') {
+        Some(more) => Some(from + more),
+        None => None,
+    }
 }
 
 // The number that a field's digits spell, if it is at most `most`.
-fn read_digits(field: &[u8], most: u64) -> Number
+fn read_digits(field: &[u8], most: u64) -> Option<u64>
     ensures { result ≡ number_from (most + 1) 0 field.now }
 {
     let mut value: u64 = 0;
-    let mut i = 0;
-    while i < field.len() {
-        let byte = field[i];
-        if byte < b'0' {
-            return Number::Malformed;
+    for byte in field {
+        if !byte.is_ascii_digit() {
+            return None;
         }
-        if b'9' < byte {
-            return Number::Malformed;
-        }
-        let digit = layout::wide(byte) - 48;
-        if most / 10 < value {
-            return Number::Malformed;
-        }
-        if most - value * 10 < digit {
-            return Number::Malformed;
-        }
-        value = value * 10 + digit;
-        i += 1;
+        value = value.checked_mul(10)?.checked_add(u64::from(*byte - b'0'))?;
     }
-    Number::Value(value)
+    (value <= most).then_some(value)
 }
 
 // The number that a field is, without spare zeros and at most `most`.
-fn read_number(field: &[u8], most: u64) -> Number
+fn read_number(field: &[u8], most: u64) -> Option<u64>
     ensures { result ≡ number_of (most + 1) field.now }
 {
-    if field.len() == 0 {
-        return Number::Malformed;
+    match field {
+        [] => None,
+        [_] => read_digits(field, most),
+        [first, ..] if *first == b'0' => None,
+        _ => read_digits(field, most),
     }
-    if field.len() == 1 {
-        return read_digits(field, most);
-    }
-    if field[0] == b'0' {
-        return Number::Malformed;
-    }
-    read_digits(field, most)
 }
 
 // The greatest second number of a letter's command.
 fn most_after(letter: u8) -> u64
     ensures { result + 1 ≡ limit_after letter }
 {
-    if letter == b'A' {
-        return MOST_LIFT;
-    }
-    MOST
+    if letter == b'A' { MOST_LIFT } else { MOST }
 }
 
 // The command of a letter and two numbers.
@@ -108,49 +79,32 @@ fn command_named(letter: u8, client: u64, number: u64) -> Command
     requires { number < limit_after letter }
     ensures { result ≡ named letter client number }
 {
-    if letter == b'I' {
-        return Command::Insert(client, number);
+    match letter {
+        b'I' => Command::Insert(client, number),
+        b'S' => Command::Search(client, number),
+        b'A' => Command::Scan(client, number as u32),
+        _ => Command::Unknown,
     }
-    if letter == b'S' {
-        return Command::Search(client, number);
-    }
-    if letter == b'A' {
-        return Command::Scan(client, number as u32);
-    }
-    Command::Unknown
 }
 
 // The command of a letter and two fields.
 fn command_of(letter: u8, one: &[u8], two: &[u8]) -> Command
     ensures { result ≡ of_numbers letter one.now two.now }
 {
-    let Number::Value(client) = read_number(one, MOST) else {
-        return Command::Unknown;
-    };
-    let Number::Value(number) = read_number(two, most_after(letter)) else {
-        return Command::Unknown;
-    };
-    command_named(letter, client, number)
+    match (read_number(one, MOST), read_number(two, most_after(letter))) {
+        (Some(client), Some(number)) => command_named(letter, client, number),
+        _ => Command::Unknown,
+    }
 }
 
 // The command that a line is.
 pub fn read_command(line: &[u8]) -> Command
     ensures { result ≡ command_of line.now }
 {
-    if find(line, 0, b' ') != 1 {
-        return Command::Unknown;
+    let mut fields = line.split(|byte| *byte == b' ');
+    match (fields.next(), fields.next(), fields.next(), fields.next()) {
+        (Some([letter]), None, ..) if *letter == b'G' => Command::Split,
+        (Some([letter]), Some(one), Some(two), None) => command_of(*letter, one, two),
+        _ => Command::Unknown,
     }
-    let letter = line[0];
-    if line.len() == 1 {
-        if letter == b'G' {
-            return Command::Split;
-        }
-        return Command::Unknown;
-    }
-    let end = find(line, 2, b' ');
-    if end == line.len() {
-        return Command::Unknown;
-    }
-    let next = end + 1;
-    command_of(letter, &line[2..end], &line[next..])
 }

@@ -3,7 +3,8 @@
 
 mod session;
 
-ghost use Rattle.std.specs.Prelude.{◌≡◌, ◌≤◌, length};
+ghost use Rattle.std.specs.Prelude.{◌≡◌, ◌≤◌, length, take};
+ghost use Rattle.std.specs.Io.KnownBytes.{Consumes};
 
 use std::io;
 use std::io::{Read, Write};
@@ -15,17 +16,18 @@ fn output() -> [u8; 131072]
     [0; 131072]
 }
 
-// Reads until the buffer is full, the input ends or a read fails, and says how many bytes it put at its start.
+// Reads until the buffer is full, the input ends or a read fails, and says how many bytes it put at its start: the
+// next that the reader had.
 fn read_full<R: Read>(reader: &mut R, buffer: &mut [u8]) -> usize
-    ensures { result ≤ length buffer.new }
+    ensures fits { result ≤ length buffer.new }
+    ensures bytes { Consumes (R.remaining reader.old) (R.remaining reader.new) (take result buffer.new) }
 {
     let mut filled = 0;
     while filled < buffer.len() {
-        let more = reader.read(&mut buffer[filled..]).unwrap_or(0);
-        if more == 0 {
-            return filled;
+        match reader.read(&mut buffer[filled..]) {
+            Ok(0) | Err(_) => return filled,
+            Ok(more) => filled += more,
         }
-        filled += more;
     }
     filled
 }

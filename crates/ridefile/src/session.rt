@@ -5,6 +5,8 @@ ghost use Rattle.lines.specs.Lines.{Wrote};
 ghost use Rattle.commands.specs.Text.{pieces};
 ghost use Rattle.turn.specs.Session.{printed_from, printed, room_for};
 
+use lines::Text;
+
 // Runs the lines of an input one after another; what follows the last line feed is no command.
 fn run_lines(input: &[u8], file: &mut [u8], table: &mut [u8], out: &mut [u8]) -> usize
     requires { room_for (length input.now) ≤ length out.old }
@@ -12,17 +14,16 @@ fn run_lines(input: &[u8], file: &mut [u8], table: &mut [u8], out: &mut [u8]) ->
         (printed_from file.old table.old (pieces line_feed input.now)) out.old
         out.new result }
 {
+    let mut text = Text::new(out, 0);
     let mut from = 0;
-    let mut at = 0;
-    while from < input.len() {
-        let end = commands::line_end(input, from);
-        if end == input.len() {
-            return lines::put_unknown(out, at);
-        }
-        at = turn::run_line(&input[from..end], file, table, out, at);
+    while let Some(end) = commands::line_end(input, from) {
+        turn::run_line(&input[from..end], file, table, &mut text);
         from = end + 1;
     }
-    at
+    if from < input.len() {
+        text.put_unknown();
+    }
+    text.end()
 }
 
 // Makes the file and its clients, runs an input on them, and writes what is printed.

@@ -1,23 +1,20 @@
 -- `commands::read_digits` takes digit after digit: what the digits left spell after the value so far stays the same at
 -- each step.
-use native.Mathlib.Omega.{arith}
-use Rattle.commands.specs.Text.Reading.{read_end, read_low, read_high, read_great, read_past, read_digit}
+use Rattle.std.proofs.Common.{rules}
+use Rattle.commands.specs.Text.Reading.{read_whole, read_other, read_product, read_sum, read_more}
 use Rattle.commands.proofs.read_digits.Goals as goal
 
-pub returns-then-byte-lt48 : goal.returns-then-byte-lt48
-returns-then-byte-lt48 c = search read_low
+pub returns-then-not-is_ascii_digit : goal.returns-then-not-is_ascii_digit
+returns-then-not-is_ascii_digit c = search (rules, read_other)
 
-pub returns-then-byte-gt57 : goal.returns-then-byte-gt57
-returns-then-byte-gt57 c = search read_high
+pub returns-in_err-checked_mul : goal.returns-in_err-checked_mul
+returns-in_err-checked_mul c = search (rules, read_product)
 
-pub returns-then-most-value : goal.returns-then-most-value
-returns-then-most-value c = search read_great
+pub returns-in_err-value : goal.returns-in_err-value
+returns-in_err-value c = search (rules, read_sum)
 
-pub returns-then-most-value-2 : goal.returns-then-most-value-2
-returns-then-most-value-2 c = search read_past
-
-pub loop-i-preserved : goal.loop-i-preserved
-loop-i-preserved c = (search read_digit, omega arith, omega arith)
+pub loop-byte-preserved : goal.loop-byte-preserved
+loop-byte-preserved c = search (rules, read_more)
 
 pub returns : goal.returns
-returns c = search read_end
+returns c = search (rules, read_whole)

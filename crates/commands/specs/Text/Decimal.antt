@@ -1,6 +1,6 @@
 -- Reading the digits of a number gives the number back, and no other digits without spare zeros do.
 use Rattle.std.specs.Prelude.{ℕ, ◌+◌, ◌-◌, ◌*◌, ◌/◌, ◌%◌, ◌≤◌, ◌<◌, ◌≡◌, refl, true, ◌&&◌, List, [], ◌∷◌, ◌++◌, ◌≢◌}
-use Rattle.std.specs.Prelude.{leb, ltb, eqb}
+use Rattle.std.specs.Prelude.{leb, ltb, eqb, Some}
 use Rattle.std.proofs.Common.{◌∙◌, sym, ap, ap₂, append_assoc, append-nil, arith}
 use Rattle.std.proofs.Math.Bool.{and-eq-true_iff}
 use Rattle.std.proofs.lemmas.Bool.{false≢true}
@@ -12,7 +12,6 @@ use Rattle.lines.specs.Bytes.{digit0, digit9}
 use Rattle.lines.specs.Lines.{decimal}
 use Rattle.lines.specs.Lines.Decimal.{decimal_one, decimal_more, by_digits}
 use Rattle.commands.specs.Text.{all_digits, no_spare_zero, spelled, value, is_number, number_of}
-use Rattle.commands.specs.declared.Number.TheVariants.{Value}
 
 all_append : (bs : List ℕ) (b : ℕ) → all_digits bs ≡ true → digit0 ≤ b → b ≤ digit9 → all_digits (bs ++ (b ∷ [])) ≡ true
 unfolding all_digits
@@ -61,7 +60,7 @@ module _ (limit x : ℕ) (small : x < limit) where
   unfolding is_number
   decimal_is_number = rw (decimal_digits x, decimal_spare x, decimal_value x, lt-ltb x limit small)
 
-  pub decimal_number : number_of limit (decimal x) ≡ Value x
+  pub decimal_number : number_of limit (decimal x) ≡ Some x
   unfolding number_of
   decimal_number = rw (decimal_is_number, decimal_value x)
 

@@ -1,5 +1,6 @@
 -- The fields of a line, one after another as the code meets them, and the command that they make.
 use Rattle.std.specs.Prelude.{ℕ, suc, ◌+◌, ◌-◌, ◌^◌, ◌≤◌, ◌<◌, ◌≡◌, refl, false, cond, ◌&&◌, leb, eqb, length}
+use Rattle.std.specs.Prelude.{Option, Some, None}
 use Rattle.std.proofs.Common.{◌∙◌, add-one, arith, take_all}
 use Rattle.std.proofs.Math.Path.{sym, ap}
 use Rattle.std.proofs.Math.Bool.{and-false}
@@ -14,8 +15,6 @@ use Rattle.commands.specs.Text.Pieces.{pieces_more, pieces_last}
 use Rattle.commands.specs.Text.Reading.{number_good, number_bad, number_small}
 use Rattle.commands.specs.declared.Command.{Command}
 use Rattle.commands.specs.declared.Command.TheVariants.{Split, Insert, Search, Scan, Unknown}
-use Rattle.commands.specs.declared.Number.{Number}
-use Rattle.commands.specs.declared.Number.TheVariants.{Value, Malformed}
 
 -- the command of a letter, by the letters in turn; a scan's second number has its own limit
 pub limit_scan : (letter : ℕ) → letter ≡ letter_a → limit_after letter ≡ 2 ^ 32
@@ -52,7 +51,7 @@ no_space [] two = refl
 no_space (x ∷ xs) two = rw (no_space xs two) (and-false (leb digit0 x && leb x digit9))
 
 module _ (letter : ℕ) (one two : List ℕ) where
-  numbers_first : number_of (2 ^ 64) one ≡ Malformed → of_numbers letter one two ≡ Unknown
+  numbers_first : number_of (2 ^ 64) one ≡ None → of_numbers letter one two ≡ Unknown
   unfolding of_numbers
   numbers_first e = rw (number_bad (2 ^ 64) one e)
 
@@ -60,11 +59,11 @@ module _ (letter : ℕ) (one two : List ℕ) where
   unfolding of_numbers
   second_bad e = rw (e, and-false)
 
-  numbers_second : number_of (limit_after letter) two ≡ Malformed → of_numbers letter one two ≡ Unknown
+  numbers_second : number_of (limit_after letter) two ≡ None → of_numbers letter one two ≡ Unknown
   numbers_second e = second_bad (number_bad (limit_after letter) two e)
 
-  pub numbers_both : (client number : ℕ) → number_of (2 ^ 64) one ≡ Value client
-      → number_of (limit_after letter) two ≡ Value number
+  pub numbers_both : (client number : ℕ) → number_of (2 ^ 64) one ≡ Some client
+      → number_of (limit_after letter) two ≡ Some number
       → of_numbers letter one two ≡ named letter client number
   unfolding of_numbers
   numbers_both client number e f =
@@ -87,26 +86,26 @@ module _ (letter : ℕ) (one two : List ℕ) where
           rw is (sym (second_bad (rw (ap all_digits (sym whole) ∙ no_space first (together space (next ∷ more))))))
 
 -- the command of two fields, by what was read of each
-module _ (letter : ℕ) (one two : List ℕ) {read : Number} (is : read ≡ number_of (2 ^ 64) one) where
-  pub first_malformed : read ≡ Malformed → Unknown ≡ of_numbers letter one two
+module _ (letter : ℕ) (one two : List ℕ) {read : Option ℕ} (is : read ≡ number_of (2 ^ 64) one) where
+  pub first_malformed : read ≡ None → Unknown ≡ of_numbers letter one two
   first_malformed told = sym (numbers_first letter one two (sym is ∙ told))
 
-  module _ (most : ℕ) (limit : most + 1 ≡ limit_after letter) {then : Number} (next : then ≡ number_of (most + 1) two)
+  module _ (most : ℕ) (limit : most + 1 ≡ limit_after letter) {then : Option ℕ} (next : then ≡ number_of (most + 1) two)
     where
-      pub second_malformed : then ≡ Malformed → Unknown ≡ of_numbers letter one two
+      pub second_malformed : then ≡ None → Unknown ≡ of_numbers letter one two
       second_malformed told = sym (numbers_second letter one two (rw (← limit) (sym next ∙ told)))
 
-      module _ {number : ℕ} (then-told : then ≡ Value number) where
+      module _ {number : ℕ} (then-told : then ≡ Some number) where
         pub number_limited : number < limit_after letter
         number_limited = number_small (limit_after letter) two number (rw (← limit) (sym next ∙ then-told))
 
-        pub both_numbers : {client : ℕ} → read ≡ Value client → {command : Command}
+        pub both_numbers : {client : ℕ} → read ≡ Some client → {command : Command}
             → command ≡ named letter client number
             → command ≡ of_numbers letter one two
         both_numbers {client} told e = e
             ∙ sym (numbers_both letter one two client number (sym is ∙ told) (rw (← limit) (sym next ∙ then-told)))
 
-long_letter : (first : List ℕ) (fields : List (List ℕ)) → (length first ≡ 1 → ⊥) → of_fields (first ∷ fields) ≡ Unknown
+pub long_letter : (first : List ℕ) (fields : List (List ℕ)) → (length first ≡ 1 → ⊥) → of_fields (first ∷ fields) ≡ Unknown
 unfolding of_fields
 long_letter [] fields h = refl
 long_letter (x ∷ []) fields h = absurd (h refl)

@@ -10,8 +10,13 @@ use Rattle.std.proofs.Math.Decide.{ℕ_discrete}
 use Rattle.std.proofs.Math.Nat.{sub_self}
 use native.Mathlib.Omega.{arith}
 use borrow.Author.Tests.{lt-ltb, le-ltb, eq-eqb, ne_eqb}
-use Rattle.std.proofs.Math.ListN.{length-drop}
 use Rattle.std.proofs.Math.Seq.{drop-cons, take_all}
+use Rattle.std.specs.Prelude.{HoldsAt, ◌≢◌, false}
+use Rattle.std.proofs.Common.{length-take-le}
+use Rattle.std.proofs.Math.ListN.{length-drop}
+use Rattle.std.proofs.lemmas.List.{get_or-take, get_or-drop}
+use Rattle.std.specs.List.{AllWithin}
+use Rattle.layout.specs.Bytes.{first_from}
 use Rattle.layout.specs.Bytes.Tests.{first_here, first_later, first_none, first_within}
 use Rattle.commands.specs.Text.{place_of, longer, pieces}
 
@@ -130,3 +135,53 @@ module _ (b : ℕ) where
                 (drop from text) (omega (arith, h, length-drop from text)),
           )
           at (parted (length text - from) from (omega arith))
+
+-- the place of the first b by what a search from a place on told: none, or one before which there is none
+module _ {test : ℕ → Bool} {e : ℕ} where
+  before : (p : ℕ) → first_from test (e - p) p ≡ p → p ≤ e → (count k : ℕ) → k + count ≡ p
+      → ((j : ℕ) → k ≤ j → j < p → test j ≡ false) → first_from test (e - k) k ≡ p
+  before p here within zero k is fails = subst (λ (n : ℕ). first_from test (e - n) n ≡ p) (omega arith) here
+  before p here within (suc count) k is fails =
+      first_later test e k (omega arith) (fails k (omega arith) (omega arith))
+      ∙ before p here within count (k + 1) (omega arith) (λ j l h. fails j (omega (arith, l)) h)
+
+module _ (b : ℕ) (text : List ℕ) (from : ℕ) (within : from ≤ length text) where
+  abbrev rest_of : List ℕ
+  rest_of = take (length text - from) (drop from text)
+
+  abbrev here : ℕ → Bool
+  here k = eqb (get_or text k 0) b
+
+  rest_length : length rest_of ≡ length text - from
+  rest_length = length-take-le (length text - from) (drop from text) (omega (arith, length-drop from text))
+
+  read : (j : ℕ) → from ≤ j → j < length text → get_or text j 0 ≡ get_or rest_of (j - from) 0
+  read j low high = sym (get_or-take (length text - from) (drop from text) (j - from) 0 (omega arith)
+      ∙ get_or-drop from text (j - from) 0 ∙ ap (λ (k : ℕ). get_or text k 0) (omega arith))
+
+  fails : (limit : ℕ) → limit ≤ length text - from → AllWithin (λ x. x ≢ b) rest_of 0 limit
+      → (j : ℕ) → from ≤ j → j < from + limit → here j ≡ false
+  fails limit few none j low high = ne_eqb (get_or text j 0) b
+      (λ e. none (j - from) 0 (omega arith) (omega arith) (sym (read j low (omega arith)) ∙ e))
+
+  pub place_none : AllWithin (λ x. x ≢ b) rest_of 0 (length rest_of) → place_of b text from ≡ length text
+  place_none none = before (length text) (first_none here (length text) (length text) (omega arith)) (omega arith)
+      (length text - from) from (omega arith)
+      (λ j l h. fails (length rest_of) (omega (arith, rest_length)) none j l (omega (arith, rest_length, h)))
+
+  pub place_found : {more : ℕ} → more < length rest_of → HoldsAt (λ x. x ≡ b) rest_of more
+      → AllWithin (λ x. x ≢ b) rest_of 0 more
+      → (from + more ≡ place_of b text from) × (from ≤ from + more) × (from + more < length text)
+  place_found {more} few hit none = (
+    sym (before (from + more) (first_here here (length text) (from + more) inside (eq-eqb _ b there))
+        (omega (arith, inside))
+        more from refl (λ j l h. fails more (omega (arith, rest_length)) none j l h)),
+    omega arith,
+    inside,
+  )
+    where
+      inside : from + more < length text
+      inside = omega (arith, rest_length)
+
+      there : get_or text (from + more) 0 ≡ b
+      there = read (from + more) (omega arith) inside ∙ ap (λ (k : ℕ). get_or rest_of k 0) (omega arith) ∙ hit 0

@@ -33,6 +33,15 @@ module _ (at x : ℕ) (entry : List ℕ) (room : at + length (decimal x) ≤ len
         → Wrote at (decimal x) entry exit end
     number_wrote second = rw (decimal_more x more) (wrote_both first second)
 
+-- a number under another name, as a conversion to a wider type gives it
+module _ {wide x : ℕ} (is : wide ≡ x) where
+  pub converted_room : (at : ℕ) {size : ℕ} → at + length (decimal x) ≤ size → at + length (decimal wide) ≤ size
+  converted_room at room = rw is room
+
+  pub converted : {at next : ℕ} {entry exit : List ℕ} → Wrote at (decimal wide) entry exit next
+      → Wrote at (decimal x) entry exit next
+  converted w = rw is at w
+
 -- each number after a separator: those of the numbers so far are written
 module _ (at separator : ℕ) (numbers entry : List ℕ)
     (room : at + length (each_after separator numbers) ≤ length entry) where
@@ -60,6 +69,13 @@ module _ (at separator : ℕ) (numbers entry : List ℕ)
 pub wide_number : (numbers : List ℕ) (i : ℕ) → ((k : ℕ) → Fits w16 (get_or numbers k 0)) → Fits w64 (get_or numbers i 0)
 wide_number numbers i known = Fits-16_64 (known i)
 
+-- a list's length as a pattern tests it
+pub length_none : {n : ℕ} → n < 1 → n ≡ 0
+length_none less = omega arith
+
+pub length_some : {n : ℕ} → 1 ≤ n → n ≡ 0 → ⊥
+length_some more e = omega arith
+
 -- numbers with a separator between them: none, or a first one and each other after a separator
 module _ (at separator : ℕ) (numbers entry : List ℕ)
     (room : at + length (joined separator numbers) ≤ length entry) where
@@ -85,6 +101,10 @@ module _ (at separator : ℕ) (numbers entry : List ℕ)
       joined_wrote second = rw (joined_some separator numbers some) (wrote_both first second)
 
 -- the line of an unknown command: two bytes
+pub unknown_end_room : {at next : ℕ} {entry one : List ℕ} → at + line_room 0 ≤ length entry
+    → Wrote at (question ∷ []) entry one next → next < length one
+unknown_end_room room first = omega (arith, wrote_length first)
+
 pub unknown_wrote : {at next end : ℕ} {entry one exit : List ℕ} → Wrote at (question ∷ []) entry one next
     → Wrote next (line_feed ∷ []) one exit end → WroteLine (line_room 0) at unknown_line entry exit end
 unknown_wrote first second = rw unknown_is (record { wrote = wrote_both first second; short = omega arith })

@@ -1,6 +1,6 @@
 -- `turn::run_line` goes by the command that the line is.
-use Rattle.turn.specs.Session.Laws.{split_room, insert_room, search_room, scan_room, line_done, line_split}
-use Rattle.turn.specs.Session.Laws.{line_unknown}
+use Rattle.std.proofs.Common.{rules}
+use Rattle.turn.specs.Session.Laws.{split_room, insert_room, search_room, scan_room, line_done, line_unknown}
 use Rattle.turn.proofs.run_line.Goals as goal
 
 pub run_split-requires : goal.run_split-requires
@@ -16,16 +16,16 @@ pub run_scan-requires : goal.run_scan-requires
 run_scan-requires c = search scan_room
 
 pub returns-in-Split : goal.returns-in-Split
-returns-in-Split c = search line_split
+returns-in-Split c = let told = c.run_split.ensures c.args.table.now in search (rules, line_done)
 
 pub returns-in-Insert : goal.returns-in-Insert
-returns-in-Insert c = search line_done
+returns-in-Insert c = search (rules, line_done)
 
 pub returns-in-Search : goal.returns-in-Search
-returns-in-Search c = search line_done
+returns-in-Search c = search (rules, line_done)
 
 pub returns-in-Scan : goal.returns-in-Scan
-returns-in-Scan c = search line_done
+returns-in-Scan c = search (rules, line_done)
 
 pub returns-in-Unknown : goal.returns-in-Unknown
-returns-in-Unknown c = search line_unknown
+returns-in-Unknown c = search (rules, line_unknown)

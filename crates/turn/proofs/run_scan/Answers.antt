@@ -1,4 +1,5 @@
 -- `turn::run_scan`: what scan told, and the line of it; its visits fit the list.
+use Rattle.std.proofs.Common.{rules}
 use Rattle.scan.specs.Scan.Replied.{scan_answered}
 use Rattle.turn.specs.Session.Laws.{visits_few, visits_taken, visits_room, scan_done}
 use Rattle.turn.proofs.run_scan.Goals as goal
@@ -21,4 +22,4 @@ put_scan-requires c =
 pub returns : goal.returns
 returns c =
     let told = scan_answered c.scan-done.result c.from-answer.ensures c.scan-done.ensures in
-    search (scan_done, told)
+    search (rules, scan_done, told)

@@ -11,7 +11,7 @@ use Rattle.scan.specs.Scan.{Scanned, scan}
 use Rattle.scan.specs.Scan.Outcome.{visits_fit}
 use Rattle.lines.specs.Bytes.{line_feed, letter_i, letter_s}
 use Rattle.lines.specs.Lines.{unknown_line, ride_line, split_line, scan_line, Wrote, WroteLine, line_room}
-use Rattle.lines.specs.Lines.Edit.{wrote_none, wrote_both}
+use Rattle.lines.specs.Lines.Edit.{wrote_none, wrote_both, wrote_length}
 use Rattle.commands.specs.Text.{pieces, line_end, command_of}
 use Rattle.commands.specs.Text.Pieces.{pieces_none, some_piece, pieces_more, pieces_last}
 use Rattle.commands.specs.Text.Spelling.{Spelling, unknown, splits, numbers, one_spelling, spelling_long}
@@ -275,6 +275,25 @@ module _ {input file₀ table₀ out₀ : List ℕ} {from : ℕ} {file table out
       last : printed_from file table (pieces line_feed (drop from input)) ≡ unknown_line
       last = rw (pieces_last line_feed input from so.within (sym is ∙ ended))
           (printed_last file table (drop from input) (omega (arith, length-drop from input)))
+
+  -- the same as std's search tells it, and the room that there is for a line and for the cut one
+  pub printing_rest : from < length input → line_end input from ≡ length input → {exit : List ℕ} {next : ℕ}
+      → WroteLine (line_room 0) at unknown_line out exit next
+      → Wrote 0 (printed_from file₀ table₀ (pieces line_feed input)) out₀ exit next
+  printing_rest some is w = printing_cut some (sym is) refl w
+
+  module _ {size : ℕ} (whole : room_for (length input) ≤ size) (same : length out₀ ≡ size) where
+    pub rest_room : from < length input → at + line_room 0 ≤ length out
+    rest_room some = omega (arith, so.room, wrote_length so.wrote)
+
+    pub line_end_room : {end : ℕ} → from ≤ end → end < length input
+        → at + room_for (length (take (end - from) (drop from input)) + 1) ≤ length out
+    line_end_room {end} later within = omega (
+      arith,
+      so.room,
+      wrote_length so.wrote,
+      length-take-le (end - from) (drop from input) (omega (arith, length-drop from input)),
+    )
 
   pub printing_done : length input ≤ from → Wrote 0 (printed_from file₀ table₀ (pieces line_feed input)) out₀ out at
   printing_done h = rw (← so.whole, none, append-nil so.text) so.wrote

@@ -1,18 +1,33 @@
 -- `ridefile::session::run_lines` goes line by line: what is written so far, and what the rest prints, stays the whole.
-use mathlib.Core.Path.{refl}
-use Rattle.std.proofs.Common.{rules}
-use Rattle.turn.specs.Session.Laws.{printing_none, printing_more, printing_cut, printing_done}
+use Rattle.std.proofs.Common.{rules, ap, length}
+use Rattle.turn.specs.Session.Laws.{printing_none, printing_more, printing_rest, printing_done, rest_room}
+use Rattle.turn.specs.Session.Laws.{line_end_room}
+use Rattle.ridefile.proofs.session.run_lines.Goals.{then-from-input, else-from-input}
 use Rattle.ridefile.proofs.session.run_lines.Goals as goal
 
-pub loop-from-init : goal.loop-from-init
-loop-from-init c = let a = c.args in
-    (printing_none a.input.now a.file.now a.table.now a.out.now, refl, refl, refl)
+pub loop-end-init : goal.loop-end-init
+loop-end-init c = let a = c.args in
+    let start = printing_none a.input.now a.file.now a.table.now c.new-text.result.out.now in
+    search rules
 
-pub returns-then-end-input : goal.returns-then-end-input
-returns-then-end-input c = search printing_cut
+pub run_line-requires : goal.run_line-requires
+run_line-requires c = line_end_room c.loop-end.invariant.0 c.requires (ap length c.new-text.ensures.bytes)
+    c.in-Some.ensures.1 c.in-Some.ensures.2
 
-pub loop-from-preserved : goal.loop-from-preserved
-loop-from-preserved c = (search printing_more, search rules, search rules, search rules)
+pub loop-end-preserved : goal.loop-end-preserved
+loop-end-preserved c = (search (rules, printing_more), search rules)
+
+pub put_unknown-requires : goal.put_unknown-requires
+put_unknown-requires c = rest_room c.loop-end.invariant.0 c.requires (ap length c.new-text.ensures.bytes)
+    c.if-from-input.true
 
 pub returns : goal.returns
-returns c = search printing_done
+returns c = elim c.if-from-input.branch [
+  | then-from-input w ↦
+      let last = printing_rest c.loop-end.invariant.0 w.if-from-input.true c.in_default.ensures
+      w.put_unknown.ensures.wrote in
+      search rules
+  | else-from-input w ↦
+      let last = printing_done c.loop-end.invariant.0 w.if-from-input.false in
+      search rules
+]

@@ -1,14 +1,12 @@
 -- `ridefile::session::run_lines` goes line by line: what is written so far, and what the rest prints, stays the whole.
-use Prim.Native.Nat.{◌-◌}
-use mathlib.Core.Path.{◌≡◌}
-use lib.ListN.{length}
+use Rattle.std.proofs.Common.{◌≡◌, ◌-◌, length}
 use Rattle.turn.specs.Session.Laws.{Printing}
 use Rattle.ridefile.proofs.session.run_lines.Given as goal
 
-abbrev pub invariant-loop-from : goal.invariant-loop-from
-invariant-loop-from l = Printing l.input l.initial.file l.initial.table l.initial.out l.from l.file l.table l.out l.at
-    × (length l.file ≡ length l.initial.file)
-    × (length l.table ≡ length l.initial.table) × (length l.out ≡ length l.initial.out)
+abbrev pub invariant-loop-end : goal.invariant-loop-end
+invariant-loop-end l = Printing l.input l.initial.file l.initial.table l.initial.text.out.now l.from l.file l.table
+    l.text.out.now l.text.at
+    × (l.text.out.ghost_name ≡ l.initial.text.out.ghost_name)
 
-abbrev pub decreases-loop-from : goal.decreases-loop-from
-decreases-loop-from l = length l.input - l.from
+abbrev pub decreases-loop-end : goal.decreases-loop-end
+decreases-loop-end l = length l.input - l.from
