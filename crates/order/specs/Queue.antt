@@ -28,8 +28,8 @@ pub record Scannable (state image : Image) : Type 0 where
   pub behind : NotAhead first_buckets state image
   pub few : buckets first_buckets state ≤ 65536
 
--- What a bucket asks that sends to so many of its children, from the one of level `told` on: levels that are low enough,
--- and numbers of at most 16 bits.
+-- What a bucket asks that sends to so many of its children, from the one of level `told` on: levels that are low
+-- enough, and numbers of at most 16 bits.
 pub record Sendable (bucket told count : ℕ) : Type 0 where
   pub room : Room first_buckets (told + count)
   pub children : (k : ℕ) → told ≤ k → k < told + count → child first_buckets bucket k < 65536
