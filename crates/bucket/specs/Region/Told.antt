@@ -142,12 +142,6 @@ module _ (region : List ℕ) (count k : ℕ) {latests before : List ℕ} (so : C
     chain_last end = (chain_start region count count latests before (chain_whole region count k latests before so end)
         mark key is small).0
 
-    -- a place in a table of bytes
-    pub chain_wide : count ≤ most_slots → Fits w64 (get_or latests mark 0)
-    chain_wide few = record {
-      fits = omega (arith, (chain_start region count k latests before so mark key is small).1, so.within, few);
-    }
-
   pub chain_all : count ≤ k → Chained region before count
   chain_all end = (chain_whole region count k latests before so end).chained
 
