@@ -139,8 +139,8 @@ pub fn region_zero(file: &[u8], header: Header, number: u32) -> bool
     layout::is_zero(region(file, header, number))
 }
 
-// The slot that holds a key in a bucket of a file, the count if none does; None if the bucket is unsound. It takes numbers alone and cuts the region out itself: a struct, or
-// a part that is handed back, would go through memory.
+// The slot that holds a key in a bucket of a file, the count if none does; None if the bucket is unsound. It takes
+// numbers alone and cuts the region out itself: a struct, or a part that is handed back, would go through memory.
 pub fn judge_bucket(file: &[u8], slots: u32, bucket: u32, level: u32, key: u64) -> Option<usize>
     requires { Standing file.now slots bucket level }
     ensures { result ≡ cond (bucket_sound_in file.now bucket) (Some (slot_of (region_of file.now bucket) key)) None }

@@ -1,11 +1,10 @@
 -- `bucket::slots_chained`: the slots so far fit and are chained; each turn seeks one key along its chain and adds its
 -- slot. In the end the key asked for is sought in the same way.
-use Rattle.std.proofs.Common.{rules}
 use Rattle.address.specs.Rules.{keeps}
 use Rattle.layout.specs.Bytes.Tests.{all_none}
 use Rattle.bucket.specs.Region.Judge.{fitting}
 use Rattle.bucket.specs.Region.Single.{chain_none}
-use Rattle.bucket.specs.Region.Told.{slot_unfit, chain_wide, chain_from, chained_double, slot_next}
+use Rattle.bucket.specs.Region.Told.{slot_unfit, chained_double, slot_next}
 use Rattle.bucket.specs.Region.Told.{chain_next, chained_done}
 use Rattle.bucket.proofs.slots_chained.Goals as goal
 
@@ -19,20 +18,11 @@ loop-k-init c = let a = c.args in (
 pub returns-then-not-slot_fits : goal.returns-then-not-slot_fits
 returns-then-not-slot_fits c = search slot_unfit
 
-pub overflow_cast-next : goal.overflow_cast-next
-overflow_cast-next c = search chain_wide
-
-pub seek-requires : goal.seek-requires
-seek-requires c = (search rules, search rules, search rules, search chain_from)
-
 pub returns-then-is_some : goal.returns-then-is_some
 returns-then-is_some c = search chained_double
 
 pub loop-k-preserved : goal.loop-k-preserved
 loop-k-preserved c = (search slot_next, search chain_next)
-
-pub overflow_cast-last : goal.overflow_cast-last
-overflow_cast-last c = search chain_wide
 
 pub returns : goal.returns
 returns c = search chained_done

@@ -1,6 +1,5 @@
 -- `bucket::slots_chained`: the slots so far fit and are chained; each turn seeks one key along its chain and adds its
 -- slot. In the end the key asked for is sought in the same way.
-use Prim.Native.Nat.{◌-◌}
 use mathlib.Core.Path.{◌≡◌}
 use mathlib.Core.Bool.{true}
 use Rattle.address.specs.Rules.{keeps}
@@ -12,6 +11,3 @@ use Rattle.bucket.proofs.slots_chained.Given as goal
 abbrev pub invariant-loop-k : goal.invariant-loop-k
 invariant-loop-k l = (all_below (fitting (keeps l.home.first l.home.bucket l.home.level) l.region) l.k ≡ true)
     × Chaining l.region l.count l.k l.latest l.before
-
-abbrev pub decreases-loop-k : goal.decreases-loop-k
-decreases-loop-k l = l.count - l.k

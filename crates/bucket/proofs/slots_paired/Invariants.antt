@@ -1,6 +1,6 @@
 -- `bucket::slots_paired`: the slots so far fit and their keys are distinct; each turn adds one slot whose key is not
 -- found before it. In the end the key asked for is found among them all.
-use Prim.Native.Nat.{◌-◌, ◌≤◌}
+use Prim.Native.Nat.{◌≤◌}
 use mathlib.Core.Path.{◌≡◌}
 use mathlib.Core.Bool.{true}
 use Rattle.address.specs.Rules.{keeps}
@@ -13,6 +13,3 @@ abbrev pub invariant-loop-k : goal.invariant-loop-k
 invariant-loop-k l = (l.k ≤ l.count)
     × (all_below (fitting (keeps l.home.first l.home.bucket l.home.level) l.region) l.k ≡ true)
     × (distinct (keys_of (rides_from l.region 0 l.k)) ≡ true)
-
-abbrev pub decreases-loop-k : goal.decreases-loop-k
-decreases-loop-k l = l.count - l.k

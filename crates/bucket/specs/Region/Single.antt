@@ -14,7 +14,8 @@ use Rattle.std.proofs.lemmas.List.{length-replicate, get_or-replicate}
 use Rattle.address.specs.Limits.{most_slots}
 use Rattle.address.specs.Compare.{below, same}
 use Rattle.layout.specs.Bytes.{all_below, first_from}
-use Rattle.layout.specs.Bytes.Tests.{and_none, and_both, all_fails, first_here, first_later, first_none, first_within, first_before, first_passes}
+use Rattle.layout.specs.Bytes.Tests.{and_none, and_both, all_fails, first_here, first_later, first_none, first_within}
+use Rattle.layout.specs.Bytes.Tests.{first_before, first_passes}
 use Rattle.bucket.specs.Region.{slot_used, key_at, rides_from, keys_of, every, distinct}
 use Rattle.bucket.specs.Region.Rides.{distinct_append}
 use Rattle.bucket.specs.Region.Judge.{keys_more, fresh_from, stands, distinct_later, fitting, fits_all}
@@ -152,7 +153,8 @@ module _ (region : List ℕ) (key count next : ℕ) (so : Sought region key coun
   pub sought_met : key_at region (next - 1) ≡ key → SoughtAt region key count (Some (next - 1))
   sought_met e = record {
     none = λ z. absurd (true≢false z);
-    here = λ slot is. (omega (arith, same_Some _ _ is, so.within, some), ap (key_at region) (sym (same_Some _ _ is)) ∙ e);
+    here = λ slot is.
+        (omega (arith, same_Some _ _ is, so.within, some), ap (key_at region) (sym (same_Some _ _ is)) ∙ e);
   }
 
 pub sought_done : (region : List ℕ) (key count next : ℕ) → Sought region key count next → next ≡ 0
@@ -415,8 +417,8 @@ place_done region key count place so single = ⊎_elim
         ∙ first_before (λ i. eqb (key_at region i) key) count 0 place (omega arith) m))) (λ m. omega (arith, m, h))
         (below place first)
 
--- ---- what a pass over the slots tells: the slot that holds a key, or the count, if each is marked, each key belongs and
--- none stands twice
+-- ---- what a pass over the slots tells: the slot that holds a key, or the count, if each is marked, each key belongs
+-- and none stands twice
 
 abbrev pub slots_formed : (ℕ → Bool) → List ℕ → ℕ → Bool
 slots_formed own region count = all_below (slot_used region) count && every own (keys_of (rides_from region 0 count))
@@ -447,7 +449,8 @@ module _ (own : ℕ → Bool) (region : List ℕ) (count key : ℕ) where
       all = omega arith
 
       both : slots_formed own region count ≡ true
-      both = and_both _ _ (sym (fits_all own region count) ∙ ap (all_below (fitting own region)) all ∙ fits) (sym single)
+      both = and_both _ _ (sym (fits_all own region count) ∙ ap (all_below (fitting own region)) all ∙ fits)
+          (sym single)
 
   -- and what the answer tells
   pub slots_none : slots_judged own region count key ≡ None → slots_formed own region count ≡ false

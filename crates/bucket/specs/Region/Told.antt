@@ -30,7 +30,8 @@ use Rattle.bucket.specs.Region.Single.{found_none, found_met, found_place}
 use Rattle.bucket.specs.Region.Single.{single_more}
 use Rattle.bucket.specs.Region.Single.{single_met, single_done, Chaining, chain_start, chain_met, chain_more}
 use Rattle.bucket.specs.Region.Single.{chain_whole, chain_done, place_sought, place_done}
-use Rattle.bucket.specs.Region.Single.{slots_formed, slots_judged, slots_unfit, slots_double, slots_single, slots_none, slots_some}
+use Rattle.bucket.specs.Region.Single.{slots_formed, slots_judged, slots_unfit, slots_double, slots_single, slots_none}
+use Rattle.bucket.specs.Region.Single.{slots_some}
 use Rattle.bucket.specs.Region.Write.{put_slot}
 
 -- a byte as a wide number
@@ -142,12 +143,6 @@ module _ (region : List ℕ) (count k : ℕ) {latests before : List ℕ} (so : C
     chain_last end = (chain_start region count count latests before (chain_whole region count k latests before so end)
         mark key is small).0
 
-    -- a place in a table of bytes
-    pub chain_wide : count ≤ most_slots → Fits w64 (get_or latests mark 0)
-    chain_wide few = record {
-      fits = omega (arith, (chain_start region count k latests before so mark key is small).1, so.within, few);
-    }
-
   pub chain_all : count ≤ k → Chained region before count
   chain_all end = (chain_whole region count k latests before so end).chained
 
@@ -249,7 +244,8 @@ module _ (S j : ℕ) (region : List ℕ) {head : Bool} (is : head ≡ head_sound
     module _ (own : ℕ → Bool) (key : ℕ) {judged : Option ℕ} (told : judged ≡ slots_judged own region n key) where
       pub slots_unsound : judged ≡ None → {answer : Option ℕ} → answer ≡ None
           → answer ≡ cond (sound_with S j own region) (Some (slot_of region key)) None
-      slots_unsound e {answer} none = none ∙ rw (sym (judged_slots S j own region head n is en fine (slots_formed own region n) refl
+      slots_unsound e {answer} none = none
+          ∙ rw (sym (judged_slots S j own region head n is en fine (slots_formed own region n) refl
           (ap not (slots_none own region n key (sym told ∙ e)))))
 
       pub rest_judged : {place : ℕ} → judged ≡ Some place → {rest : Bool}

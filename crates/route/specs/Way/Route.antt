@@ -282,7 +282,8 @@ module _ {file : List ℕ} {header : Header} (seen : Known file header) where
       walk_keeps {place} found e =
           let (good, keeps) = fate_kept first_buckets a l key sound (sym ef ∙ e) in
           walk_kept file key seen.ranges.formed way walk next a so noting counted (sym es ∙ good)
-          (ap (λ (k : ℕ). hash first_buckets k key) at_level ∙ keeps) (sym (cond_some (bucket_sound_in file a) _ place (sym is ∙ found)).1)
+          (ap (λ (k : ℕ). hash first_buckets k key) at_level ∙ keeps)
+          (sym (cond_some (bucket_sound_in file a) _ place (sym is ∙ found)).1)
 
       pub walk_stops : {place : ℕ} → f ≡ Unsound → Walked file key way next a place 7
       walk_stops e = walk_stopped file key seen.ranges.formed way walk next a so noting counted
