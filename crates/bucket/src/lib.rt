@@ -43,16 +43,6 @@ fn find(region: &[u8], count: usize, key: u64) -> Option<usize>
     (0..count).position(|k| key_at(region, k) == key)
 }
 
-// One number or another, by a test.
-pub fn chosen(test: bool, one: usize, other: usize) -> usize
-    ensures { result ≡ cond test one other }
-{
-    if test {
-        return one;
-    }
-    other
-}
-
 // A bucket by what decides which keys are its own: its number, its level and how many buckets a file starts with.
 #[derive(Clone, Copy)]
 struct Home {

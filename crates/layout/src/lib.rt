@@ -9,13 +9,6 @@ ghost use Rattle.layout.specs.Bytes.{le_at, le_bytes, marked, all_zero, edit, pa
 
 pub use refused::Refused;
 
-// A byte as a wide number.
-pub fn wide(x: u8) -> u64
-    ensures { (result ≡ x) × (result < 256) }
-{
-    u64::from(x)
-}
-
 // The bytes at a place, as many as the array has.
 pub fn array_at<const N: usize>(bytes: &[u8], at: usize) -> [u8; N]
     requires { at + N ≤ length bytes.now }
