@@ -115,13 +115,14 @@ fn put_figures(file: &mut [u8], capacity: u64, slots: u64, most: u64)
         ≡ edit 0 (header_bytes («at» 0 0) capacity slots most) file.old }
 {
     layout::put(file, 0, b"LF");
+    let [low, high, ..] = most.to_le_bytes();
     let figures = [
         0,
         capacity as u8,
         0,
         0,
-        (most % 256) as u8,
-        (most / 256 % 256) as u8,
+        low,
+        high,
         slots as u8,
         0,
         0,
