@@ -23,8 +23,8 @@ fn head_sound(region: &[u8], slots: u32, level: u32) -> bool
     ensures { result ≡ head_sound slots level region.now }
 {
     layout::has_mark(region, 0, b"LB")
-        & ((layout::read::<2>(region, 2) ^ level as u64 | layout::read::<2>(region, 6)) == 0)
-        & (layout::read::<2>(region, 4) <= slots as u64)
+        & ((layout::read::<2>(region, 2) ^ u64::from(level) | layout::read::<2>(region, 6)) == 0)
+        & (layout::read::<2>(region, 4) <= u64::from(slots))
 }
 
 // The key in a slot.
@@ -112,7 +112,7 @@ fn seek(
         if key_at(region, slot) == key {
             return Some(slot);
         }
-        next = before[slot] as usize;
+        next = usize::from(before[slot]);
     }
     None
 }
@@ -137,14 +137,14 @@ fn slots_chained(
         }
         let mark = fingerprint(held);
         let next = latest[mark];
-        if seek(region, before, k, next as usize, held).is_some() {
+        if seek(region, before, k, usize::from(next), held).is_some() {
             return None;
         }
         before[k] = next;
         latest[mark] = (k + 1) as u8;
     }
     let last = latest[fingerprint(key)];
-    Some(seek(region, before, count, last as usize, key).unwrap_or(count))
+    Some(seek(region, before, count, usize::from(last), key).unwrap_or(count))
 }
 
 // The slot that holds a key, or the count, if each slot in use is marked, each key belongs and none stands twice: few
