@@ -9,7 +9,7 @@ ghost use Rattle.layout.specs.Replies.Refused.{number, given};
 ghost use Rattle.route.specs.Way.{noted};
 ghost use Rattle.route.specs.Way.Reach.{AtOwn};
 ghost use Rattle.answer.specs.Answer.{block, no_payload};
-ghost use Rattle.ride.specs.Call.{Outcome, found, replied, searched, search, placed, insert};
+ghost use Rattle.ride.specs.Call.{Outcome, found, search_reply, searched, search, placed, insert};
 
 use file::Header;
 use layout::Refused;
@@ -75,7 +75,7 @@ pub fn search(
     key: u64,
     answer: &mut [u8],
 ) -> Result<bool, Refused>
-    ensures { record { answer = replied result; block = answer.new; table = table.new; file = file.now }
+    ensures { record { answer = search_reply result; block = answer.new; table = table.new; file = file.now }
         ≡ search file.now table.old client key answer.old }
 {
     if answer.len() != 24 {
@@ -151,7 +151,7 @@ fn finish_insert(
     Ok(())
 }
 
-// Inserts a ride through a client: 14, 2 to 6, 7, 8, 9, else 0.
+// Inserts a ride through a client: 14, 2 to 6, 7, 8, 9, else it is placed.
 pub fn insert(
     file: &mut [u8],
     table: &mut [u8],

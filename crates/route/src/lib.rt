@@ -118,7 +118,8 @@ fn note(walk: Walk, bucket: u32) -> Walk
 fn walk_route(file: &[u8], header: Header, image: Image, key: u64) -> Result<End, Walk>
     requires { Known file.now header × (image.level ≤ most_level) × Formed first_buckets image
         × NotAhead first_buckets (state_of file.now) image }
-    ensures reached { IfOk result (λ end. Walked file.now key (way_of file.now image key) end.walk end.bucket end.place 0) }
+    ensures reached { IfOk result (λ end. Walked file.now key (way_of file.now image key) end.walk end.bucket
+        end.place 0) }
     ensures stopped { IfErr result (λ walk. Walked file.now key (way_of file.now image key) walk 0 0 7) }
 {
     let state = header.state;

@@ -8,8 +8,8 @@ ghost use Rattle.address.specs.Rules.First.{better};
 ghost use Rattle.layout.specs.Bytes.{edit};
 ghost use Rattle.file.specs.File.{buckets_of, bucket_sound_in};
 ghost use Rattle.file.specs.File.Judge.{Known};
-ghost use Rattle.scan.specs.Scan.{of_lift, keys_in, matches_on, visits_of, first_unsound, answer_of, collected, leaving};
-ghost use Rattle.scan.specs.Scan.{scan};
+ghost use Rattle.scan.specs.Scan.{of_lift, keys_in, matches_on, visits_of, first_unsound, answer_of, collected};
+ghost use Rattle.scan.specs.Scan.{leaving, scan};
 ghost use Rattle.scan.specs.Scan.Bits.{bits_of, selected};
 ghost use Rattle.scan.specs.Scan.Notes.{Noted};
 ghost use Rattle.scan.specs.Scan.Tally.{AllJudged};
@@ -110,8 +110,8 @@ fn bits_of(file: &[u8], header: Header, bucket: u32, lift: u32, notes: &[u64]) -
     match_bits(file, header, bucket, lift)
 }
 
-// Judges the buckets in number order up to the first unsound one, which is the error, notes which keys match, and counts
-// the matches if all are sound.
+// Judges the buckets in number order up to the first unsound one, which is the error; notes which keys match, and
+// counts the matches if all are sound.
 fn judge_all(file: &[u8], header: Header, lift: u32, notes: &mut [u64]) -> Result<u32, u32>
     requires { Known file.now header }
     ensures sound { IfOk result (λ matches. AllJudged file.now lift true no_bucket matches notes.new) }
