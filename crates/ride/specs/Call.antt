@@ -29,9 +29,9 @@ pub record Outcome : Type 0 where
 abbrev pub found : Bool → ℕ
 found held = cond held 0 1
 
-abbrev pub search_reply : Result Bool Refused → ℕ
-search_reply (Ok held) = found held
-search_reply (Err refused) = number refused
+abbrev pub search_number : Result Bool Refused → ℕ
+search_number (Ok held) = found held
+search_number (Err refused) = number refused
 
 -- The image after the call: adjusted with 0, 1, 8 and 9, and with nothing else.
 pub adjusted_table : List ℕ → List ℕ → ℕ → ℕ → List ℕ

@@ -9,7 +9,7 @@ ghost use Rattle.layout.specs.Replies.Refused.{number, given};
 ghost use Rattle.route.specs.Way.{noted};
 ghost use Rattle.route.specs.Way.Reach.{AtOwn};
 ghost use Rattle.answer.specs.Answer.{block, no_payload};
-ghost use Rattle.ride.specs.Call.{Outcome, found, search_reply, searched, search, placed, insert};
+ghost use Rattle.ride.specs.Call.{Outcome, found, search_number, searched, search, placed, insert};
 
 use file::Header;
 use layout::Refused;
@@ -75,7 +75,7 @@ pub fn search(
     key: u64,
     answer: &mut [u8],
 ) -> Result<bool, Refused>
-    ensures { record { answer = search_reply result; block = answer.new; table = table.new; file = file.now }
+    ensures { record { answer = search_number result; block = answer.new; table = table.new; file = file.now }
         ≡ search file.now table.old client key answer.old }
 {
     if answer.len() != 24 {
