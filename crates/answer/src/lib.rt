@@ -1,7 +1,7 @@
 // The answer block of insert and search: written, and its forwards counted.
 #![tactic(auto)]
 
-ghost use Rattle.std.specs.Prelude.{◌≡◌, ◌%◌, ◌≤◌, ◌∷◌, length, replicate};
+ghost use Rattle.std.specs.Prelude.{◌≡◌, ◌%◌, ◌≤◌, ◌∷◌, replicate};
 ghost use Rattle.layout.specs.Bytes.{le_bytes, edit};
 ghost use Rattle.route.specs.Way.{noted};
 ghost use Rattle.route.specs.Way.Noted.{shown};
@@ -9,6 +9,9 @@ ghost use Rattle.answer.specs.Answer.{block, no_payload, forwards_in};
 ghost use Rattle.answer.specs.Answer.Block.{start_bytes};
 
 use route::Walk;
+
+// How many bytes an answer block has.
+pub const BLOCK: usize = 24;
 
 // A route entry of the answer block, as the number of its two bytes.
 fn entry(count: u32, place: u32, bucket: u32) -> u64
@@ -33,8 +36,7 @@ fn start_of_block(reply: u8, walk: Walk) -> u64
 }
 
 // Writes the count held of an answer block and the zeros behind it.
-fn put_count(answer: &mut [u8], count: u8)
-    requires { length answer.old ≡ 24 }
+fn put_count(answer: &mut [u8; BLOCK], count: u8)
     ensures { answer.new ≡ edit 8 (count ∷ replicate 15 0) answer.old }
 {
     layout::write::<8>(answer, 8, count as u64);
@@ -42,8 +44,8 @@ fn put_count(answer: &mut [u8], count: u8)
 }
 
 // Writes an answer block without a payload, as three numbers of eight bytes.
-pub fn put_block(answer: &mut [u8], reply: u8, walk: Walk, count: u8)
-    requires { (length answer.old ≡ 24) × (walk.count ≤ 3) }
+pub fn put_block(answer: &mut [u8; BLOCK], reply: u8, walk: Walk, count: u8)
+    requires { walk.count ≤ 3 }
     ensures { answer.new ≡ block reply (noted walk) count no_payload }
 {
     layout::write::<8>(answer, 0, start_of_block(reply, walk));
@@ -54,7 +56,7 @@ pub fn put_block(answer: &mut [u8], reply: u8, walk: Walk, count: u8)
 pub fn forwards(answer: &[u8]) -> u32
     ensures { result ≡ forwards_in answer.now }
 {
-    if answer.len() != 24 {
+    if answer.len() != BLOCK {
         return 0;
     }
     u32::from(answer[1]).saturating_sub(1)

@@ -10,6 +10,9 @@ ghost use Rattle.bucket.specs.Region.{slot_at, slot_used, key_at, head_sound, so
 ghost use Rattle.bucket.specs.Region.Single.{fingerprints, fingerprint, latest_of, Chained};
 ghost use Rattle.bucket.specs.Region.Single.{first_found, slots_judged, SoughtAt};
 
+// How many bytes a ride's payload has.
+pub const PAYLOAD: usize = 14;
+
 // How many fingerprints of keys there are.
 const FINGERPRINTS: usize = 512;
 
@@ -216,8 +219,8 @@ pub fn judge(
 }
 
 // Places a ride in the first free slot, and answers the count then held.
-pub fn place(region: &mut [u8], count: usize, key: u64, payload: &[u8]) -> usize
-    requires { (slot_at count + 24 ≤ length region.old) × (count < most_slots) × (length payload.now ≡ 14) }
+pub fn place(region: &mut [u8], count: usize, key: u64, payload: &[u8; PAYLOAD]) -> usize
+    requires { (slot_at count + 24 ≤ length region.old) × (count < most_slots) }
     ensures { (result ≡ count + 1)
         × (region.new ≡ edit 4 (le_bytes 2 (count + 1))
         (edit (slot_at count) (slot_bytes (record { key = key; payload = payload.now })) region.old)) }

@@ -192,10 +192,10 @@ pub fn place_ride(
     bucket: u32,
     count: usize,
     key: u64,
-    payload: &[u8],
+    payload: &[u8; bucket::PAYLOAD],
 ) -> usize
     requires { Known file.old header × (bucket < buckets_of file.old) × (bucket_sound_in file.old bucket ≡ true)
-        × (count ≡ count_of (region_of file.old bucket)) × (count < header.slots) × (length payload.now ≡ 14) }
+        × (count ≡ count_of (region_of file.old bucket)) × (count < header.slots) }
     ensures { (result ≡ count + 1)
         × (file.new ≡ with_ride file.old bucket
         (record { key = key; payload = payload.now })) }

@@ -20,6 +20,8 @@ ghost use Rattle.load.specs.Load.{number, decision, leaving, decided, controlled
 ghost use Rattle.load.specs.Load.Own.{refusal_at, Kept, Divisible};
 ghost use Rattle.load.specs.Load.Regions.{Sound, regions_of, regions_for, Roomy};
 
+use answer::BLOCK;
+use bucket::PAYLOAD;
 use file::{Fault, Header};
 use growth::Divided;
 use layout::Refused;
@@ -55,8 +57,8 @@ pub enum Growth {
 }
 
 // Writes the block of a call that is refused on its way, and passes the refusal on.
-fn refuse(answer: &mut [u8], stop: Stop) -> Fault
-    requires { (length answer.old ≡ 24) × (stop.walk.count ≤ 3) }
+fn refuse(answer: &mut [u8; BLOCK], stop: Stop) -> Fault
+    requires { stop.walk.count ≤ 3 }
     ensures { (result ≡ Plain stop.refused)
         × (answer.new ≡ block (number_of stop.refused) (noted stop.walk) 0 no_payload) }
 {
@@ -144,11 +146,11 @@ fn insert_refusal(place: usize, count: usize, slots: u32) -> Result<(), Refused>
 fn turn_away(
     table: &mut [u8],
     client: u64,
-    answer: &mut [u8],
+    answer: &mut [u8; BLOCK],
     reached: Reached,
     refused: Refused,
 ) -> Fault
-    requires { (length answer.old ≡ 24) × (reached.walk.count ≤ 3) × (8 * client + 8 ≤ length table.old)
+    requires { (reached.walk.count ≤ 3) × (8 * client + 8 ≤ length table.old)
         × (record_sound table.old client ≡ true) × (reached.image ≡ image_of table.old client)
         × ImageRoom first_buckets reached.header.state × (reached.walk.first ≤ most_buckets)
         × ((adjusted_by reached.header.state reached.image reached.walk).level < 256)
@@ -168,13 +170,13 @@ fn place(
     table: &mut [u8],
     client: u64,
     key: u64,
-    payload: &[u8],
-    answer: &mut [u8],
+    payload: &[u8; PAYLOAD],
+    answer: &mut [u8; BLOCK],
     reached: Reached,
     count: usize,
 )
-    requires { (length answer.old ≡ 24) × (length payload.now ≡ 14)
-        × AtOwn file.old table.old client key reached.header reached.image reached.walk reached.bucket reached.place
+    requires { AtOwn file.old table.old client key reached.header reached.image reached.walk reached.bucket
+        reached.place
         × (count ≡ count_of (region_of file.old reached.bucket))
         × (refusal_at reached.place count reached.header.slots ≡ 0) }
     ensures { (record { answer = 0; block = answer.new; table = table.new; file = file.new }
@@ -213,14 +215,14 @@ fn commit(
     table: &mut [u8],
     client: u64,
     key: u64,
-    payload: &[u8],
-    answer: &mut [u8],
+    payload: &[u8; PAYLOAD],
+    answer: &mut [u8; BLOCK],
     reached: Reached,
     count: usize,
     control: Control,
 ) -> Result<Growth, Fault>
-    requires { (length answer.old ≡ 24) × (length payload.now ≡ 14)
-        × AtOwn file.old table.old client key reached.header reached.image reached.walk reached.bucket reached.place
+    requires { AtOwn file.old table.old client key reached.header reached.image reached.walk reached.bucket
+        reached.place
         × (count ≡ count_of (region_of file.old reached.bucket))
         × (refusal_at reached.place count reached.header.slots ≡ 0) × Roomy file.old control
         × (regions_for file.old control ≡ Sound) }
@@ -242,14 +244,14 @@ fn accept(
     table: &mut [u8],
     client: u64,
     key: u64,
-    payload: &[u8],
+    payload: &[u8; PAYLOAD],
     threshold: u64,
-    answer: &mut [u8],
+    answer: &mut [u8; BLOCK],
     reached: Reached,
     count: usize,
 ) -> Result<Growth, Fault>
-    requires { (length answer.old ≡ 24) × (length payload.now ≡ 14) × (threshold ≤ percent)
-        × AtOwn file.old table.old client key reached.header reached.image reached.walk reached.bucket reached.place
+    requires { (threshold ≤ percent) × AtOwn file.old table.old client key reached.header reached.image reached.walk
+        reached.bucket reached.place
         × (count ≡ count_of (region_of file.old reached.bucket)) × (count ≤ most_slots)
         × (refusal_at reached.place count reached.header.slots ≡ 0) }
     ensures { leaving result answer.new table.new file.new
@@ -277,13 +279,13 @@ fn finish(
     table: &mut [u8],
     client: u64,
     key: u64,
-    payload: &[u8],
+    payload: &[u8; PAYLOAD],
     threshold: u64,
-    answer: &mut [u8],
+    answer: &mut [u8; BLOCK],
     reached: Reached,
 ) -> Result<Growth, Fault>
-    requires { (length answer.old ≡ 24) × (length payload.now ≡ 14) × (threshold ≤ percent)
-        × AtOwn file.old table.old client key reached.header reached.image reached.walk reached.bucket reached.place }
+    requires { (threshold ≤ percent) × AtOwn file.old table.old client key reached.header reached.image reached.walk
+        reached.bucket reached.place }
     ensures { leaving result answer.new table.new file.new
         ≡ controlled file.old table.old client key threshold
         (placed file.old table.old client key payload.now) }
@@ -313,10 +315,12 @@ pub fn insert_split(
         ≡ insert_split file.old table.old client key payload.now threshold
         answer.old }
 {
-    let fits = (answer.len() == 24) & (payload.len() == 14);
-    if !fits {
+    let Some(payload) = payload.as_array() else {
         return Err(Fault::Plain(Refused::Lengths));
-    }
+    };
+    let Some(answer) = answer.as_mut_array() else {
+        return Err(Fault::Plain(Refused::Lengths));
+    };
     let ranged = (1 <= threshold) & (threshold <= address::PERCENT);
     if !ranged {
         let refused = Refused::Threshold;

@@ -11,6 +11,8 @@ ghost use Rattle.route.specs.Way.Reach.{AtOwn};
 ghost use Rattle.answer.specs.Answer.{block, no_payload};
 ghost use Rattle.ride.specs.Call.{Outcome, found, search_number, searched, search, placed, insert};
 
+use answer::BLOCK;
+use bucket::PAYLOAD;
 use file::Header;
 use layout::Refused;
 use route::{Reached, Stop, Walk};
@@ -19,8 +21,15 @@ use route::{Reached, Stop, Walk};
 const ABSENT: u8 = 1;
 
 // Writes the block of a search that found its key, with the payload in the key's slot.
-fn put_found(file: &[u8], header: Header, bucket: u32, place: usize, walk: Walk, answer: &mut [u8])
-    requires { (length answer.old ≡ 24) × (walk.count ≤ 3) × Known file.now header
+fn put_found(
+    file: &[u8],
+    header: Header,
+    bucket: u32,
+    place: usize,
+    walk: Walk,
+    answer: &mut [u8; BLOCK],
+)
+    requires { (walk.count ≤ 3) × Known file.now header
         × (bucket < buckets_of file.now) × (place < slots_of file.now) }
     ensures { answer.new
         ≡ block 0 (noted walk) 0 (ride_at (region_of file.now bucket) place).payload }
@@ -36,11 +45,11 @@ fn finish_search(
     table: &mut [u8],
     client: u64,
     key: u64,
-    answer: &mut [u8],
+    answer: &mut [u8; BLOCK],
     reached: Reached,
 ) -> bool
-    requires { (length answer.old ≡ 24)
-        × AtOwn file.now table.old client key reached.header reached.image reached.walk reached.bucket reached.place }
+    requires { AtOwn file.now table.old client key reached.header reached.image reached.walk reached.bucket
+        reached.place }
     ensures { record { answer = found result; block = answer.new; table = table.new; file = file.now }
         ≡ searched file.now table.old client key }
 {
@@ -58,8 +67,8 @@ fn finish_search(
 }
 
 // Writes the block of a call that is refused on its way, and passes the refusal on.
-pub fn refuse(answer: &mut [u8], stop: Stop) -> Refused
-    requires { (length answer.old ≡ 24) × (stop.walk.count ≤ 3) }
+pub fn refuse(answer: &mut [u8; BLOCK], stop: Stop) -> Refused
+    requires { stop.walk.count ≤ 3 }
     ensures { (result ≡ stop.refused)
         × (answer.new ≡ block (number stop.refused) (noted stop.walk) 0 no_payload) }
 {
@@ -78,9 +87,9 @@ pub fn search(
     ensures { record { answer = search_number result; block = answer.new; table = table.new; file = file.now }
         ≡ search file.now table.old client key answer.old }
 {
-    if answer.len() != 24 {
+    let Some(answer) = answer.as_mut_array() else {
         return Err(Refused::Lengths);
-    }
+    };
     match route::reach(file, table, client, key) {
         Ok(reached) => Ok(finish_search(file, table, client, key, answer, reached)),
         Err(stop) => Err(refuse(answer, stop)),
@@ -94,12 +103,12 @@ pub fn put_placed(
     bucket: u32,
     count: usize,
     key: u64,
-    payload: &[u8],
+    payload: &[u8; PAYLOAD],
     walk: Walk,
-    answer: &mut [u8],
+    answer: &mut [u8; BLOCK],
 )
-    requires { (length answer.old ≡ 24) × (length payload.now ≡ 14) × (walk.count ≤ 3)
-        × Known file.old header × (bucket < buckets_of file.old) × (bucket_sound_in file.old bucket ≡ true)
+    requires { (walk.count ≤ 3) × Known file.old header × (bucket < buckets_of file.old)
+        × (bucket_sound_in file.old bucket ≡ true)
         × (count ≡ count_of (region_of file.old bucket)) × (count < header.slots) }
     ensures { (file.new
         ≡ with_ride file.old bucket (record { key = key; payload = payload.now }))
@@ -115,12 +124,12 @@ fn finish_insert(
     table: &mut [u8],
     client: u64,
     key: u64,
-    payload: &[u8],
-    answer: &mut [u8],
+    payload: &[u8; PAYLOAD],
+    answer: &mut [u8; BLOCK],
     reached: Reached,
 ) -> Result<(), Refused>
-    requires { (length answer.old ≡ 24) × (length payload.now ≡ 14)
-        × AtOwn file.old table.old client key reached.header reached.image reached.walk reached.bucket reached.place }
+    requires { AtOwn file.old table.old client key reached.header reached.image reached.walk reached.bucket
+        reached.place }
     ensures { record { answer = given result; block = answer.new; table = table.new; file = file.new }
         ≡ placed file.old table.old client key payload.now }
 {
@@ -163,10 +172,12 @@ pub fn insert(
     ensures { record { answer = given result; block = answer.new; table = table.new; file = file.new }
         ≡ insert file.old table.old client key payload.now answer.old }
 {
-    let fits = (answer.len() == 24) & (payload.len() == 14);
-    if !fits {
+    let Some(payload) = payload.as_array() else {
         return Err(Refused::Lengths);
-    }
+    };
+    let Some(answer) = answer.as_mut_array() else {
+        return Err(Refused::Lengths);
+    };
     match route::reach(file, table, client, key) {
         Ok(reached) => finish_insert(file, table, client, key, payload, answer, reached),
         Err(stop) => Err(refuse(answer, stop)),

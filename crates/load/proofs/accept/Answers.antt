@@ -11,7 +11,7 @@ pub returns-in-Err : goal.returns-in-Err
 returns-in-Err c = search (load_unsound, c.in-Err.is)
 
 pub commit-requires : goal.commit-requires
-commit-requires c = (search, search, search, search, search, search roomy, search regions_passed)
+commit-requires c = (search, search, search, search roomy, search regions_passed)
 
 pub returns-in-Ok : goal.returns-in-Ok
 returns-in-Ok c = search load_decided

@@ -23,6 +23,10 @@ use Rattle.load.specs.declared.Control.TheVariants.{NotDue}
 use Rattle.load.specs.Load.{Loaded, controlled, unranged, insert_split}
 use Rattle.load.specs.Load.Own.{as_loaded, refused_as}
 
+-- a threshold in range is at most the whole
+pub ranged_low : (t : ℕ) → not (leb 1 t && leb t percent) ≡ false → t ≤ percent
+ranged_low t ranged = leb-true t percent (and_right (leb 1 t) _ (not-false _ ranged))
+
 module _ (file table : List ℕ) (client key t : ℕ) where
   module _ (payload answer : List ℕ) where
     -- up to the key's own bucket
@@ -82,7 +86,7 @@ module _ (file table : List ℕ) (client key t : ℕ) where
             ∙ ap (λ (b : Bool). b && false) (not-false fits right)
 
         pub load_low : t ≤ percent
-        load_low = leb-true t percent (and_right (leb 1 t) _ (not-false _ ranged))
+        load_low = ranged_low t ranged
 
         pub load_refused : {why : ℕ} → why ≡ reply (early file table client) 0 → (walk : Walk)
             → walk.count ≡ 0 → {left : List ℕ} → (why ≡ 0 → ⊥) → left ≡ block why (noted walk) 0 no_payload

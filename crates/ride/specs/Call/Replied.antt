@@ -113,6 +113,19 @@ fits_answer x y h = eqb-true x 24 (and_left (eqb x 24) (eqb y 14) (not-false _ h
 pub fits_payload : (x y : ℕ) → not (eqb x 24 && eqb y 14) ≡ false → y ≡ 14
 fits_payload x y h = eqb-true y 14 (and_right (eqb x 24) (eqb y 14) (not-false _ h))
 
+pub both_fit : (x y : ℕ) → x ≡ 24 → y ≡ 14 → not (eqb x 24 && eqb y 14) ≡ false
+both_fit x y ex ey = rw (eq-eqb x 24 ex, eq-eqb y 14 ey)
+
+pub unfit_answer : (x y : ℕ) → (x ≡ 24 → ⊥) → not (eqb x 24 && eqb y 14) ≡ true
+unfit_answer x y h = rw (ne_eqb x 24 h)
+
+pub unfit_payload : (x y : ℕ) → (y ≡ 14 → ⊥) → not (eqb x 24 && eqb y 14) ≡ true
+unfit_payload x y h = rw (ne_eqb y 14 h) (go (eqb x 24))
+  where
+    go : (b : Bool) → not (b && false) ≡ true
+    go true = refl
+    go false = refl
+
 -- ---- at the key's own bucket
 
 -- the count then held, and one ride more, in the own bucket
