@@ -10,6 +10,8 @@ ghost use Rattle.bucket.specs.Region.{slot_at, slot_used, key_at, head_sound, so
 ghost use Rattle.bucket.specs.Region.Single.{fingerprints, fingerprint, latest_of, Chained};
 ghost use Rattle.bucket.specs.Region.Single.{first_found, slots_judged, SoughtAt};
 
+use address::Home;
+
 // How many bytes a ride's payload has.
 pub const PAYLOAD: usize = 14;
 
@@ -44,24 +46,6 @@ fn find(region: &[u8], count: usize, key: u64) -> Option<usize>
     ensures { result ≡ first_found region.now count key }
 {
     (0..count).position(|k| key_at(region, k) == key)
-}
-
-// A bucket by what decides which keys are its own: its number, its level and how many buckets a file starts with.
-#[derive(Clone, Copy)]
-struct Home {
-    first: u32,
-    bucket: u32,
-    level: u32,
-    ghost room: { Room first level },
-}
-
-impl Home {
-    // Whether a key belongs.
-    fn keeps(self, key: u64) -> bool
-        ensures { result ≡ keeps self.first self.bucket self.level key }
-    {
-        address::hash(self.first, self.level, key) == self.bucket
-    }
 }
 
 // Whether a slot is marked and its key, which is given, belongs.

@@ -8,7 +8,7 @@ ghost use Rattle.file.specs.File.{divided, split, buckets_of, most_of, with_stat
 ghost use Rattle.file.specs.File.Judge.{Known};
 ghost use Rattle.growth.specs.Split.{answer_of, leaving};
 
-use address::Image;
+use address::{Home, Image};
 use file::{Fault, Header};
 use layout::Refused;
 
@@ -68,15 +68,12 @@ pub fn divide(file: &mut [u8], header: Header, old: u32, new: u32)
     let state = header.state;
     let from = file::start(slots, old);
     let to = file::start(slots, new);
-    division::divide(
-        file,
-        from,
-        to,
-        slots,
-        address::FIRST_BUCKETS,
-        old,
-        state.level + 1,
-    );
+    let home = Home {
+        first: address::FIRST_BUCKETS,
+        bucket: old,
+        level: state.level + 1,
+    };
+    division::divide(file, from, to, slots, home);
     put_state(file, state.grown(address::FIRST_BUCKETS));
 }
 
