@@ -11,7 +11,7 @@ ghost use Rattle.route.specs.Way.Reach.{AtOwn};
 ghost use Rattle.answer.specs.Answer.{block, no_payload};
 ghost use Rattle.ride.specs.Call.{Outcome, found, replied, searched, search, placed, insert};
 
-use file::Header;
+use file::{Headed, Header};
 use layout::Refused;
 use route::{Reached, Stop, Walk};
 
@@ -19,15 +19,15 @@ use route::{Reached, Stop, Walk};
 const ABSENT: u8 = 1;
 
 // Writes the block of a search that found its key, with the payload in the key's slot.
-fn put_found(file: &[u8], header: Header, bucket: u32, place: usize, walk: Walk, answer: &mut [u8])
-    requires { (length answer.old ≡ 24) × (walk.count ≤ 3) × Known file.now header
-        × (bucket < buckets_of file.now) × (place < slots_of file.now) }
+fn put_found(headed: &Headed, bucket: u32, place: usize, walk: Walk, answer: &mut [u8])
+    requires { (length answer.old ≡ 24) × (walk.count ≤ 3)
+        × (bucket < buckets_of headed.now.file.now) × (place < slots_of headed.now.file.now) }
     ensures { answer.new
-        ≡ block 0 (noted walk) 0 (ride_at (region_of file.now bucket) place).payload }
+        ≡ block 0 (noted walk) 0 (ride_at (region_of headed.now.file.now bucket) place).payload }
 {
     answer::put_block(answer, 0, walk, 0);
-    let at = file::start(header.slots, bucket);
-    layout::copy14(answer, 10, file, at + (18 + 24 * place));
+    let at = file::start(headed.header.slots, bucket);
+    layout::copy14(answer, 10, headed.file, at + (18 + 24 * place));
 }
 
 // A search that reached the key's own bucket: whether the key is held there, and then its payload is in the block.
@@ -44,13 +44,14 @@ fn finish_search(
     ensures { record { answer = found result; block = answer.new; table = table.new; file = file.now }
         ≡ searched file.now table.old client key }
 {
-    let header = reached.header;
     let walk = reached.walk;
-    let count = file::held_in(file, header, reached.bucket);
+    let header = reached.header;
+    let headed = Headed { file, header };
+    let count = headed.held_in(reached.bucket);
     route::adjust(table, client, header.state, reached.image, walk);
     let found = reached.place < count;
     if found {
-        put_found(file, header, reached.bucket, reached.place, walk, answer);
+        put_found(&headed, reached.bucket, reached.place, walk, answer);
         return true;
     }
     answer::put_block(answer, ABSENT, walk, 0);
@@ -126,7 +127,8 @@ fn finish_insert(
 {
     let header = reached.header;
     let walk = reached.walk;
-    let count = file::held_in(file, header, reached.bucket);
+    let headed = Headed { file, header };
+    let count = headed.held_in(reached.bucket);
     let held = reached.place < count;
     let full = header.slots as usize <= count;
     route::adjust(table, client, header.state, reached.image, walk);

@@ -1,5 +1,4 @@
 -- `ride::insert` refuses lengths that do not fit, is stopped on its way, or finishes at the key's own bucket.
-use Rattle.std.proofs.Common.{rules}
 use Rattle.layout.specs.Replies.Refused.{number_some}
 use Rattle.ride.specs.Call.Replied.{insert_unfit, insert_walked, routed_refused, routed_reached}
 use Rattle.ride.specs.Call.Replied.{fits_answer, fits_payload}

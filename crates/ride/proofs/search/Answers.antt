@@ -1,5 +1,4 @@
 -- `ride::search` refuses a block of another length, is stopped on its way, or finishes at the key's own bucket.
-use Rattle.std.proofs.Common.{rules}
 use Rattle.layout.specs.Replies.Refused.{number_some}
 use Rattle.ride.specs.Call.Replied.{search_unfit, search_walked, routed_refused, routed_reached}
 use Rattle.ride.proofs.search.Goals as goal
