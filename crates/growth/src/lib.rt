@@ -9,7 +9,7 @@ ghost use Rattle.file.specs.File.Judge.{Known};
 ghost use Rattle.growth.specs.Split.{answer_of, leaving};
 
 use address::{Home, Image};
-use file::{Fault, Header};
+use file::{Fault, Headed, Header};
 use layout::Refused;
 
 // The buckets of a split: the one that was divided, and the one that was born.
@@ -84,7 +84,8 @@ fn split_into(file: &mut [u8], header: Header, old: u32, new: u32) -> Result<Div
         × (bucket_sound_in file.old old ≡ true) }
     ensures { leaving result file.new ≡ split file.old }
 {
-    if !file::region_zero(file, header, new) {
+    let headed = Headed { file, header };
+    if !headed.region_zero(new) {
         return Err(Fault::Region(new));
     }
     divide(file, header, old, new);
@@ -97,7 +98,8 @@ fn split_bucket(file: &mut [u8], header: Header) -> Result<Divided, Fault>
     ensures { leaving result file.new ≡ split file.old }
 {
     let old = header.state.splitting();
-    if !file::bucket_sound(file, header, old) {
+    let headed = Headed { file, header };
+    if !headed.bucket_sound(old) {
         return Err(Fault::Region(old));
     }
     let new = header.state.newborn(address::FIRST_BUCKETS);

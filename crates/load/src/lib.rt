@@ -10,7 +10,6 @@ ghost use Rattle.layout.specs.Replies.Refused.{given, number as number_of};
 ghost use Rattle.bucket.specs.Region.{count_of};
 ghost use Rattle.client.specs.Table.{image_of, record_sound, with_image};
 ghost use Rattle.file.specs.File.{buckets_of, most_of, region_of, bucket_sound_in, divided};
-ghost use Rattle.file.specs.File.Judge.{Known};
 ghost use Rattle.file.specs.declared.fault.Fault.TheVariants.{Plain};
 ghost use Rattle.route.specs.Way.{noted, adjusted_by};
 ghost use Rattle.route.specs.Way.Reach.{AtOwn};
@@ -22,7 +21,7 @@ ghost use Rattle.load.specs.Load.Regions.{Sound, regions_of, regions_for, Roomy}
 
 use answer::BLOCK;
 use bucket::PAYLOAD;
-use file::{Fault, Header};
+use file::{Fault, Headed, Header};
 use growth::Divided;
 use layout::Refused;
 use route::{Reached, Stop};
@@ -89,41 +88,41 @@ fn decide(header: Header, bucket: u32, count: u32, threshold: u64) -> Control
 }
 
 // Whether the bucket that a split divides is sound; the key's own bucket is known to be.
-fn old_sound(file: &[u8], header: Header, own: u32, old: u32) -> bool
-    requires { Known file.now header × (old < buckets_of file.now) × (bucket_sound_in file.now own ≡ true) }
-    ensures { result ≡ bucket_sound_in file.now old }
+fn old_sound(headed: &Headed, own: u32, old: u32) -> bool
+    requires { (old < buckets_of headed.now.file.now) × (bucket_sound_in headed.now.file.now own ≡ true) }
+    ensures { result ≡ bucket_sound_in headed.now.file.now old }
 {
     if old == own {
         return true;
     }
-    file::bucket_sound(file, header, old)
+    headed.bucket_sound(old)
 }
 
 // Judges the regions of a split: the bucket to be divided, then the region of the new one; the first that is unsound is
 // the error.
-fn judge_regions(file: &[u8], header: Header, own: u32) -> Result<(), u32>
-    requires { Known file.now header × (buckets_of file.now < most_of file.now)
-        × (bucket_sound_in file.now own ≡ true) }
-    ensures { result ≡ regions_of file.now }
+fn judge_regions(headed: &Headed, own: u32) -> Result<(), u32>
+    requires { (buckets_of headed.now.file.now < most_of headed.now.file.now)
+        × (bucket_sound_in headed.now.file.now own ≡ true) }
+    ensures { result ≡ regions_of headed.now.file.now }
 {
-    let old = header.state.splitting();
-    if !old_sound(file, header, own, old) {
+    let old = headed.header.state.splitting();
+    if !old_sound(headed, own, old) {
         return Err(old);
     }
-    let new = header.state.newborn(address::FIRST_BUCKETS);
-    if !file::region_zero(file, header, new) {
+    let new = headed.header.state.newborn(address::FIRST_BUCKETS);
+    if !headed.region_zero(new) {
         return Err(new);
     }
     Ok(())
 }
 
 // The regions of what is decided: those of a split that is to be done, else none to judge.
-fn judge_plan(file: &[u8], header: Header, own: u32, control: Control) -> Result<(), u32>
-    requires { Known file.now header × Roomy file.now control × (bucket_sound_in file.now own ≡ true) }
-    ensures { result ≡ regions_for file.now control }
+fn judge_plan(headed: &Headed, own: u32, control: Control) -> Result<(), u32>
+    requires { Roomy headed.now.file.now control × (bucket_sound_in headed.now.file.now own ≡ true) }
+    ensures { result ≡ regions_for headed.now.file.now control }
 {
     match control {
-        Control::Done => judge_regions(file, header, own),
+        Control::Done => judge_regions(headed, own),
         Control::NotDue => Ok(()),
         Control::NoRoom => Ok(()),
     }
@@ -260,7 +259,7 @@ fn accept(
 {
     let header = reached.header;
     let control = decide(header, reached.bucket, (count + 1) as u32, threshold);
-    match judge_plan(file, header, reached.bucket, control) {
+    match judge_plan(&Headed { file, header }, reached.bucket, control) {
         Ok(()) => commit(
             file, table, client, key, payload, answer, reached, count, control,
         ),
@@ -291,7 +290,8 @@ fn finish(
         (placed file.old table.old client key payload.now) }
 {
     let header = reached.header;
-    let count = file::held_in(file, header, reached.bucket);
+    let headed = Headed { file, header };
+    let count = headed.held_in(reached.bucket);
     match insert_refusal(reached.place, count, header.slots) {
         Ok(()) => accept(
             file, table, client, key, payload, threshold, answer, reached, count,

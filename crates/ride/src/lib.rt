@@ -13,7 +13,7 @@ ghost use Rattle.ride.specs.Call.{Outcome, found, search_number, searched, searc
 
 use answer::BLOCK;
 use bucket::PAYLOAD;
-use file::Header;
+use file::{Headed, Header};
 use layout::Refused;
 use route::{Reached, Stop, Walk};
 
@@ -21,22 +21,14 @@ use route::{Reached, Stop, Walk};
 const ABSENT: u8 = 1;
 
 // Writes the block of a search that found its key, with the payload in the key's slot.
-fn put_found(
-    file: &[u8],
-    header: Header,
-    bucket: u32,
-    place: usize,
-    walk: Walk,
-    answer: &mut [u8; BLOCK],
-)
-    requires { (walk.count ≤ 3) × Known file.now header
-        × (bucket < buckets_of file.now) × (place < slots_of file.now) }
+fn put_found(headed: &Headed, bucket: u32, place: usize, walk: Walk, answer: &mut [u8; BLOCK])
+    requires { (walk.count ≤ 3) × (bucket < buckets_of headed.now.file.now) × (place < slots_of headed.now.file.now) }
     ensures { answer.new
-        ≡ block 0 (noted walk) 0 (ride_at (region_of file.now bucket) place).payload }
+        ≡ block 0 (noted walk) 0 (ride_at (region_of headed.now.file.now bucket) place).payload }
 {
     answer::put_block(answer, 0, walk, 0);
-    let at = file::start(header.slots, bucket);
-    layout::copy14(answer, 10, file, at + (18 + 24 * place));
+    let at = file::start(headed.header.slots, bucket);
+    layout::copy14(answer, 10, headed.file, at + (18 + 24 * place));
 }
 
 // A search that reached the key's own bucket: whether the key is held there, and then its payload is in the block.
@@ -53,13 +45,14 @@ fn finish_search(
     ensures { record { answer = found result; block = answer.new; table = table.new; file = file.now }
         ≡ searched file.now table.old client key }
 {
-    let header = reached.header;
     let walk = reached.walk;
-    let count = file::held_in(file, header, reached.bucket);
+    let header = reached.header;
+    let headed = Headed { file, header };
+    let count = headed.held_in(reached.bucket);
     route::adjust(table, client, header.state, reached.image, walk);
     let found = reached.place < count;
     if found {
-        put_found(file, header, reached.bucket, reached.place, walk, answer);
+        put_found(&headed, reached.bucket, reached.place, walk, answer);
         return true;
     }
     answer::put_block(answer, ABSENT, walk, 0);
@@ -135,7 +128,8 @@ fn finish_insert(
 {
     let header = reached.header;
     let walk = reached.walk;
-    let count = file::held_in(file, header, reached.bucket);
+    let headed = Headed { file, header };
+    let count = headed.held_in(reached.bucket);
     let held = reached.place < count;
     let full = header.slots as usize <= count;
     route::adjust(table, client, header.state, reached.image, walk);

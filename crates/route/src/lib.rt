@@ -7,7 +7,6 @@ ghost use Rattle.address.specs.Room.{ImageRoom};
 ghost use Rattle.address.specs.Rules.{Formed, NotAhead};
 ghost use Rattle.client.specs.Table.{image_of, record_sound, with_image};
 ghost use Rattle.file.specs.File.{state_of};
-ghost use Rattle.file.specs.File.Judge.{Known};
 ghost use Rattle.layout.specs.Replies.{reply};
 ghost use Rattle.layout.specs.Replies.Refused.{number, given};
 ghost use Rattle.route.specs.Way.{way_of, early, noted, adjusted_by};
@@ -16,7 +15,7 @@ ghost use Rattle.route.specs.Way.Reach.{OnWay, AtOwn};
 ghost use Rattle.route.specs.Way.Route.{Walked};
 
 use address::{Fate, Image};
-use file::Header;
+use file::{Headed, Header};
 use layout::Refused;
 
 // The buckets that a key has met, at most three.
@@ -115,20 +114,21 @@ fn note(walk: Walk, bucket: u32) -> Walk
 }
 
 // Walks a key's route from a client's image until a bucket keeps it, or is unsound.
-fn walk_route(file: &[u8], header: Header, image: Image, key: u64) -> Result<End, Walk>
-    requires { Known file.now header × (image.level ≤ most_level) × Formed first_buckets image
-        × NotAhead first_buckets (state_of file.now) image }
-    ensures reached { IfOk result (λ end. Walked file.now key (way_of file.now image key) end.walk end.bucket
-        end.place 0) }
-    ensures stopped { IfErr result (λ walk. Walked file.now key (way_of file.now image key) walk 0 0 7) }
+fn walk_route(headed: &Headed, image: Image, key: u64) -> Result<End, Walk>
+    requires { (image.level ≤ most_level) × Formed first_buckets image
+        × NotAhead first_buckets (state_of headed.now.file.now) image }
+    ensures reached { IfOk result (λ end.
+        Walked headed.now.file.now key (way_of headed.now.file.now image key) end.walk end.bucket end.place 0) }
+    ensures stopped { IfErr result (λ walk.
+        Walked headed.now.file.now key (way_of headed.now.file.now image key) walk 0 0 7) }
 {
-    let state = header.state;
+    let state = headed.header.state;
     let mut bucket = image.address(address::FIRST_BUCKETS, key);
     let mut walk = no_walk();
     'walk: loop {
         walk = note(walk, bucket);
         let level = state.level_of(address::FIRST_BUCKETS, bucket);
-        let judged = file::judge_bucket(file, header.slots, bucket, level, key);
+        let judged = file::judge_bucket(headed.file, headed.header.slots, bucket, level, key);
         let fate = address::fate_at(address::FIRST_BUCKETS, judged.is_some(), bucket, level, key);
         match (fate, judged) {
             (Fate::Keep, Some(place)) => {
@@ -178,7 +178,7 @@ pub fn reach(file: &[u8], table: &[u8], client: u64, key: u64) -> Result<Reached
     let opened = open(file, table, client)?;
     let header = opened.header;
     let image = opened.image;
-    match walk_route(file, header, image, key) {
+    match walk_route(&Headed { file, header }, image, key) {
         Ok(end) => Ok(Reached {
             header,
             image,

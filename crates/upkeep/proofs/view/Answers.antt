@@ -13,11 +13,14 @@ buckets-buckets-requires c = (known c.args.file.now _ c.in-Some.ensures).room
 pub returns-then-buckets-bucket : goal.returns-then-buckets-bucket
 returns-then-buckets-bucket c = search (view_past, c.in-Some.ensures)
 
+pub invariant_of-headed : goal.invariant_of-headed
+invariant_of-headed c = record { known = search (known, c.in-Some.ensures) }
+
 pub bucket_sound-requires : goal.bucket_sound-requires
-bucket_sound-requires c = (search (known, c.in-Some.ensures), search (view_there, c.in-Some.ensures))
+bucket_sound-requires c = search (view_there, c.in-Some.ensures)
 
 pub returns-then-not-bucket_sound : goal.returns-then-not-bucket_sound
 returns-then-not-bucket_sound c = search (view_bad, c.in-Some.ensures)
 
 pub used_slots-requires : goal.used_slots-requires
-used_slots-requires c = (search (known, c.in-Some.ensures), search (view_there, c.in-Some.ensures), search split_sound)
+used_slots-requires c = (search (view_there, c.in-Some.ensures), search split_sound)
