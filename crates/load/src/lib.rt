@@ -16,7 +16,8 @@ ghost use Rattle.route.specs.Way.Reach.{AtOwn};
 ghost use Rattle.answer.specs.Answer.{block, no_payload};
 ghost use Rattle.ride.specs.Call.{placed};
 ghost use Rattle.load.specs.Load.{number, decision, leaving, decided, controlled, insert_split};
-ghost use Rattle.load.specs.Load.Own.{refusal_at, Kept, Divisible};
+ghost use Rattle.ride.specs.Call.Own.{refusal_at};
+ghost use Rattle.load.specs.Load.Own.{Kept, Divisible};
 ghost use Rattle.load.specs.Load.Regions.{Sound, regions_of, regions_for, Roomy};
 
 use answer::BLOCK;
@@ -128,42 +129,7 @@ fn judge_plan(headed: &Headed, own: u32, control: Control) -> Result<(), u32>
     }
 }
 
-// Why an insert is refused at the key's own bucket, if it is: 8, the key is held, or 9, no slot is free.
-fn insert_refusal(place: usize, count: usize, slots: u32) -> Result<(), Refused>
-    ensures { given result ≡ refusal_at place count slots }
-{
-    if place < count {
-        return Err(Refused::Held);
-    }
-    if slots as usize <= count {
-        return Err(Refused::Full);
-    }
-    Ok(())
-}
-
-// An insert that is refused at the key's own bucket: the image is adjusted all the same.
-fn turn_away(
-    table: &mut [u8],
-    client: u64,
-    answer: &mut [u8; BLOCK],
-    reached: Reached,
-    refused: Refused,
-) -> Fault
-    requires { (reached.walk.count ≤ 3) × (8 * client + 8 ≤ length table.old)
-        × (record_sound table.old client ≡ true) × (reached.image ≡ image_of table.old client)
-        × ImageRoom first_buckets reached.header.state × (reached.walk.first ≤ most_buckets)
-        × ((adjusted_by reached.header.state reached.image reached.walk).level < 256)
-        × ((adjusted_by reached.header.state reached.image reached.walk).pointer < 65536) }
-    ensures { (result ≡ Plain refused)
-        × (answer.new ≡ block (number_of refused) (noted reached.walk) 0 no_payload)
-        × (table.new ≡ with_image table.old client (adjusted_by reached.header.state reached.image reached.walk)) }
-{
-    let walk = reached.walk;
-    route::adjust(table, client, reached.header.state, reached.image, walk);
-    refuse(answer, Stop { refused, walk })
-}
-
-// Writes what an accepted insert writes: the client's image, the ride and the block.
+// Writes what an accepted insert writes, and keeps of the file what its split needs.
 fn place(
     file: &mut [u8],
     table: &mut [u8],
@@ -182,18 +148,7 @@ fn place(
         ≡ placed file.old table.old client key payload.now)
         × Kept file.old file.new reached.header }
 {
-    let header = reached.header;
-    route::adjust(table, client, header.state, reached.image, reached.walk);
-    ride::put_placed(
-        file,
-        header,
-        reached.bucket,
-        count,
-        key,
-        payload,
-        reached.walk,
-        answer,
-    );
+    ride::place(file, table, client, key, payload, answer, reached, count);
 }
 
 // Divides bucket n of a file for which all is judged: its two buckets.
@@ -292,11 +247,11 @@ fn finish(
     let header = reached.header;
     let headed = Headed { file, header };
     let count = headed.held_in(reached.bucket);
-    match insert_refusal(reached.place, count, header.slots) {
+    match ride::insert_refusal(reached.place, count, header.slots) {
         Ok(()) => accept(
             file, table, client, key, payload, threshold, answer, reached, count,
         ),
-        Err(refused) => Err(turn_away(table, client, answer, reached, refused)),
+        Err(refused) => Err(Fault::Plain(ride::turn_away(table, client, answer, reached, refused))),
     }
 }
 

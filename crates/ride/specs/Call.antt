@@ -3,6 +3,7 @@
 pub mod After
 pub mod Keeping
 pub mod Left
+pub mod Own
 pub mod Placing
 pub mod Replied
 use Rattle.std.specs.Prelude.{ℕ, suc, Bool, cond, not, ◌&&◌, List, eqb, length}

@@ -1,14 +1,18 @@
 // Insert and search: what they come to, and what is written.
 #![tactic(auto)]
 
-ghost use Rattle.std.specs.Prelude.{◌≡◌, true, ◌+◌, ◌≤◌, ◌<◌, length};
+ghost use Rattle.std.specs.Prelude.{◌≡◌, true, ◌+◌, ◌*◌, ◌≤◌, ◌<◌, length};
+ghost use Rattle.address.specs.Limits.{first_buckets, most_buckets};
+ghost use Rattle.address.specs.Room.{ImageRoom};
 ghost use Rattle.bucket.specs.Region.{Ride, count_of, ride_at};
 ghost use Rattle.file.specs.File.{slots_of, buckets_of, region_of, bucket_sound_in, with_ride};
 ghost use Rattle.file.specs.File.Judge.{Known};
+ghost use Rattle.client.specs.Table.{image_of, record_sound, with_image};
 ghost use Rattle.layout.specs.Replies.Refused.{number, given};
-ghost use Rattle.route.specs.Way.{noted};
+ghost use Rattle.route.specs.Way.{noted, adjusted_by};
 ghost use Rattle.route.specs.Way.Reach.{AtOwn};
 ghost use Rattle.answer.specs.Answer.{block, no_payload};
+ghost use Rattle.ride.specs.Call.Own.{refusal_at};
 ghost use Rattle.ride.specs.Call.{Outcome, found, search_number, searched, search, placed, insert};
 
 use answer::BLOCK;
@@ -111,6 +115,76 @@ pub fn put_placed(
     answer::put_block(answer, 0, walk, after as u8);
 }
 
+// Why an insert is refused at the key's own bucket, if it is: 8, the key is held, or 9, no slot is free.
+pub fn insert_refusal(place: usize, count: usize, slots: u32) -> Result<(), Refused>
+    ensures { given result ≡ refusal_at place count slots }
+{
+    if place < count {
+        return Err(Refused::Held);
+    }
+    if slots as usize <= count {
+        return Err(Refused::Full);
+    }
+    Ok(())
+}
+
+// An insert that is refused at the key's own bucket: the image is adjusted all the same.
+#[inline(always)]
+pub fn turn_away(
+    table: &mut [u8],
+    client: u64,
+    answer: &mut [u8; BLOCK],
+    reached: Reached,
+    refused: Refused,
+) -> Refused
+    requires { (reached.walk.count ≤ 3) × (8 * client + 8 ≤ length table.old)
+        × (record_sound table.old client ≡ true) × (reached.image ≡ image_of table.old client)
+        × ImageRoom first_buckets reached.header.state × (reached.walk.first ≤ most_buckets)
+        × ((adjusted_by reached.header.state reached.image reached.walk).level < 256)
+        × ((adjusted_by reached.header.state reached.image reached.walk).pointer < 65536) }
+    ensures { (result ≡ refused)
+        × (answer.new ≡ block (number refused) (noted reached.walk) 0 no_payload)
+        × (table.new ≡ with_image table.old client (adjusted_by reached.header.state reached.image reached.walk)) }
+{
+    let walk = reached.walk;
+    route::adjust(table, client, reached.header.state, reached.image, walk);
+    refuse(answer, Stop { refused, walk })
+}
+
+// Writes what an accepted insert writes: the client's image, the ride and the block.
+#[inline(always)]
+pub fn place(
+    file: &mut [u8],
+    table: &mut [u8],
+    client: u64,
+    key: u64,
+    payload: &[u8; PAYLOAD],
+    answer: &mut [u8; BLOCK],
+    reached: Reached,
+    count: usize,
+)
+    requires { AtOwn file.old table.old client key reached.header reached.image reached.walk reached.bucket
+        reached.place
+        × (count ≡ count_of (region_of file.old reached.bucket))
+        × (refusal_at reached.place count reached.header.slots ≡ 0) }
+    ensures { (record { answer = 0; block = answer.new; table = table.new; file = file.new }
+        ≡ placed file.old table.old client key payload.now)
+        × (file.new ≡ with_ride file.old reached.bucket (record { key = key; payload = payload.now })) }
+{
+    let header = reached.header;
+    route::adjust(table, client, header.state, reached.image, reached.walk);
+    put_placed(
+        file,
+        header,
+        reached.bucket,
+        count,
+        key,
+        payload,
+        reached.walk,
+        answer,
+    );
+}
+
 // An insert that reached the key's own bucket: held already, no slot free, or placed.
 fn finish_insert(
     file: &mut [u8],
@@ -127,31 +201,15 @@ fn finish_insert(
         ≡ placed file.old table.old client key payload.now }
 {
     let header = reached.header;
-    let walk = reached.walk;
     let headed = Headed { file, header };
     let count = headed.held_in(reached.bucket);
-    let held = reached.place < count;
-    let full = header.slots as usize <= count;
-    route::adjust(table, client, header.state, reached.image, walk);
-    if held {
-        let refused = Refused::Held;
-        return Err(refuse(answer, Stop { refused, walk }));
+    match insert_refusal(reached.place, count, header.slots) {
+        Ok(()) => {
+            place(file, table, client, key, payload, answer, reached, count);
+            Ok(())
+        }
+        Err(refused) => Err(turn_away(table, client, answer, reached, refused)),
     }
-    if full {
-        let refused = Refused::Full;
-        return Err(refuse(answer, Stop { refused, walk }));
-    }
-    put_placed(
-        file,
-        header,
-        reached.bucket,
-        count,
-        key,
-        payload,
-        walk,
-        answer,
-    );
-    Ok(())
 }
 
 // Inserts a ride through a client: 14, 2 to 6, 7, 8, 9, else it is placed.
