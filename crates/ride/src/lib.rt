@@ -29,7 +29,7 @@ fn put_found(
     walk: Walk,
     answer: &mut [u8; BLOCK],
 )
-    requires { (walk.count ≤ 3) × Known file.now header
+    requires { Known file.now header
         × (bucket < buckets_of file.now) × (place < slots_of file.now) }
     ensures { answer.new
         ≡ block 0 (noted walk) 0 (ride_at (region_of file.now bucket) place).payload }
@@ -68,7 +68,6 @@ fn finish_search(
 
 // Writes the block of a call that is refused on its way, and passes the refusal on.
 pub fn refuse(answer: &mut [u8; BLOCK], stop: Stop) -> Refused
-    requires { stop.walk.count ≤ 3 }
     ensures { (result ≡ stop.refused)
         × (answer.new ≡ block (number stop.refused) (noted stop.walk) 0 no_payload) }
 {
@@ -107,7 +106,7 @@ pub fn put_placed(
     walk: Walk,
     answer: &mut [u8; BLOCK],
 )
-    requires { (walk.count ≤ 3) × Known file.old header × (bucket < buckets_of file.old)
+    requires { Known file.old header × (bucket < buckets_of file.old)
         × (bucket_sound_in file.old bucket ≡ true)
         × (count ≡ count_of (region_of file.old bucket)) × (count < header.slots) }
     ensures { (file.new

@@ -6,7 +6,7 @@ use Rattle.load.specs.Load.Own.{slot_free, placed_there, kept_placed}
 use Rattle.load.proofs.place.Goals as goal
 
 pub put_placed-requires : goal.put_placed-requires
-put_placed-requires c = (search, search, search, search, search, search slot_free)
+put_placed-requires c = (search, search, search, search, search slot_free)
 
 pub returns : goal.returns
 returns c =

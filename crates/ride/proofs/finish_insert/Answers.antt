@@ -11,7 +11,7 @@ pub returns-then-full : goal.returns-then-full
 returns-then-full c = rw c.refuse-then-full.ensures.0 (search insert_full)
 
 pub put_placed-requires : goal.put_placed-requires
-put_placed-requires c = (search, search, search, search, search, search leb-false)
+put_placed-requires c = (search, search, search, search, search leb-false)
 
 pub returns : goal.returns
 returns c = search insert_done
