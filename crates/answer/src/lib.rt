@@ -14,7 +14,7 @@ use route::Walk;
 pub const BLOCK: usize = 24;
 
 // A route entry of the answer block, as the number of its two bytes.
-fn entry(count: u32, place: u32, bucket: u32) -> u64
+fn entry(count: usize, place: usize, bucket: u32) -> u64
     ensures { result ≡ shown count place bucket % 65536 }
 {
     if place < count {
@@ -25,13 +25,12 @@ fn entry(count: u32, place: u32, bucket: u32) -> u64
 
 // The first eight bytes of an answer block as one number: the reply, the count and the route's entries.
 fn start_of_block(reply: u8, walk: Walk) -> u64
-    requires { walk.count ≤ 3 }
     ensures { le_bytes 8 result ≡ start_bytes reply (noted walk) }
 {
     let count = walk.count;
-    let x = entry(count, 0, walk.first);
-    let y = entry(count, 1, walk.second);
-    let z = entry(count, 2, walk.third);
+    let x = entry(count, 0, walk.met[0]);
+    let y = entry(count, 1, walk.met[1]);
+    let z = entry(count, 2, walk.met[2]);
     reply as u64 + count as u64 * 256 + x * 65536 + y * 4294967296 + z * 281474976710656
 }
 
@@ -45,7 +44,6 @@ fn put_count(answer: &mut [u8; BLOCK], count: u8)
 
 // Writes an answer block without a payload, as three numbers of eight bytes.
 pub fn put_block(answer: &mut [u8; BLOCK], reply: u8, walk: Walk, count: u8)
-    requires { walk.count ≤ 3 }
     ensures { answer.new ≡ block reply (noted walk) count no_payload }
 {
     layout::write::<8>(answer, 0, start_of_block(reply, walk));

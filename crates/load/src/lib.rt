@@ -11,7 +11,7 @@ ghost use Rattle.bucket.specs.Region.{count_of};
 ghost use Rattle.client.specs.Table.{image_of, record_sound, with_image};
 ghost use Rattle.file.specs.File.{buckets_of, most_of, region_of, bucket_sound_in, divided};
 ghost use Rattle.file.specs.declared.fault.Fault.TheVariants.{Plain};
-ghost use Rattle.route.specs.Way.{noted, adjusted_by};
+ghost use Rattle.route.specs.Way.{noted, first_met, adjusted_by};
 ghost use Rattle.route.specs.Way.Reach.{AtOwn};
 ghost use Rattle.answer.specs.Answer.{block, no_payload};
 ghost use Rattle.ride.specs.Call.{placed};
@@ -58,7 +58,6 @@ pub enum Growth {
 
 // Writes the block of a call that is refused on its way, and passes the refusal on.
 fn refuse(answer: &mut [u8; BLOCK], stop: Stop) -> Fault
-    requires { stop.walk.count ≤ 3 }
     ensures { (result ≡ Plain stop.refused)
         × (answer.new ≡ block (number_of stop.refused) (noted stop.walk) 0 no_payload) }
 {

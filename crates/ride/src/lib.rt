@@ -9,7 +9,7 @@ ghost use Rattle.file.specs.File.{slots_of, buckets_of, region_of, bucket_sound_
 ghost use Rattle.file.specs.File.Judge.{Known};
 ghost use Rattle.client.specs.Table.{image_of, record_sound, with_image};
 ghost use Rattle.layout.specs.Replies.Refused.{number, given};
-ghost use Rattle.route.specs.Way.{noted, adjusted_by};
+ghost use Rattle.route.specs.Way.{noted, first_met, adjusted_by};
 ghost use Rattle.route.specs.Way.Reach.{AtOwn};
 ghost use Rattle.answer.specs.Answer.{block, no_payload};
 ghost use Rattle.ride.specs.Call.Own.{refusal_at};
@@ -26,7 +26,7 @@ const ABSENT: u8 = 1;
 
 // Writes the block of a search that found its key, with the payload in the key's slot.
 fn put_found(headed: &Headed, bucket: u32, place: usize, walk: Walk, answer: &mut [u8; BLOCK])
-    requires { (walk.count ≤ 3) × (bucket < buckets_of headed.now.file.now) × (place < slots_of headed.now.file.now) }
+    requires { (bucket < buckets_of headed.now.file.now) × (place < slots_of headed.now.file.now) }
     ensures { answer.new
         ≡ block 0 (noted walk) 0 (ride_at (region_of headed.now.file.now bucket) place).payload }
 {
@@ -65,7 +65,6 @@ fn finish_search(
 
 // Writes the block of a call that is refused on its way, and passes the refusal on.
 pub fn refuse(answer: &mut [u8; BLOCK], stop: Stop) -> Refused
-    requires { stop.walk.count ≤ 3 }
     ensures { (result ≡ stop.refused)
         × (answer.new ≡ block (number stop.refused) (noted stop.walk) 0 no_payload) }
 {
@@ -104,7 +103,7 @@ pub fn put_placed(
     walk: Walk,
     answer: &mut [u8; BLOCK],
 )
-    requires { (walk.count ≤ 3) × Known file.old header × (bucket < buckets_of file.old)
+    requires { Known file.old header × (bucket < buckets_of file.old)
         × (bucket_sound_in file.old bucket ≡ true)
         × (count ≡ count_of (region_of file.old bucket)) × (count < header.slots) }
     ensures { (file.new
@@ -137,9 +136,9 @@ pub fn turn_away(
     reached: Reached,
     refused: Refused,
 ) -> Refused
-    requires { (reached.walk.count ≤ 3) × (8 * client + 8 ≤ length table.old)
+    requires { (8 * client + 8 ≤ length table.old)
         × (record_sound table.old client ≡ true) × (reached.image ≡ image_of table.old client)
-        × ImageRoom first_buckets reached.header.state × (reached.walk.first ≤ most_buckets)
+        × ImageRoom first_buckets reached.header.state × (first_met reached.walk ≤ most_buckets)
         × ((adjusted_by reached.header.state reached.image reached.walk).level < 256)
         × ((adjusted_by reached.header.state reached.image reached.walk).pointer < 65536) }
     ensures { (result ≡ refused)

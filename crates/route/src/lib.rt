@@ -1,6 +1,8 @@
 // A client's refusals, a key's route, and the client's image after it.
 #![tactic(auto)]
 
+mod walk;
+
 ghost use Rattle.std.specs.Prelude.{◌≡◌, true, ◌++◌, ◌∷◌, [], ◌+◌, ◌*◌, ◌≤◌, ◌<◌, length, IfOk, IfErr};
 ghost use Rattle.address.specs.Limits.{first_buckets, most_level, most_buckets};
 ghost use Rattle.address.specs.Room.{ImageRoom};
@@ -9,7 +11,7 @@ ghost use Rattle.client.specs.Table.{image_of, record_sound, with_image};
 ghost use Rattle.file.specs.File.{state_of};
 ghost use Rattle.layout.specs.Replies.{reply};
 ghost use Rattle.layout.specs.Replies.Refused.{number, given};
-ghost use Rattle.route.specs.Way.{way_of, early, noted, adjusted_by};
+ghost use Rattle.route.specs.Way.{way_of, early, noted, first_met, adjusted_by};
 ghost use Rattle.route.specs.Way.Open.{Opening};
 ghost use Rattle.route.specs.Way.Reach.{OnWay, AtOwn};
 ghost use Rattle.route.specs.Way.Route.{Walked};
@@ -17,15 +19,7 @@ ghost use Rattle.route.specs.Way.Route.{Walked};
 use address::{Fate, Image};
 use file::{Headed, Header};
 use layout::Refused;
-
-// The buckets that a key has met, at most three.
-#[derive(Clone, Copy, Debug, PartialEq, Eq)]
-pub struct Walk {
-    pub count: u32,
-    pub first: u32,
-    pub second: u32,
-    pub third: u32,
-}
+pub use walk::Walk;
 
 // What a call starts with: the header and the client's image.
 #[derive(Clone, Copy, Debug, PartialEq, Eq)]
@@ -76,40 +70,19 @@ pub fn no_walk() -> Walk
     ensures { result.count ≡ 0 }
 {
     Walk {
+        met: [address::NO_BUCKET; 3],
         count: 0,
-        first: address::NO_BUCKET,
-        second: address::NO_BUCKET,
-        third: address::NO_BUCKET,
     }
 }
 
-// One bucket more.
-fn note(walk: Walk, bucket: u32) -> Walk
-    requires { walk.count ≤ 2 }
-    ensures { (noted result ≡ noted walk ++ (bucket ∷ [])) × (result.count ≡ walk.count + 1) }
-{
-    let count = walk.count + 1;
-    if walk.count == 0 {
-        return Walk {
-            count,
-            first: bucket,
-            second: walk.second,
-            third: walk.third,
-        };
-    }
-    if walk.count == 1 {
-        return Walk {
-            count,
-            first: walk.first,
-            second: bucket,
-            third: walk.third,
-        };
-    }
-    Walk {
-        count,
-        first: walk.first,
-        second: walk.second,
-        third: bucket,
+impl Walk {
+    // One bucket more, in place: a copy of the array would wait for the store of the bucket before.
+    fn note(&mut self, bucket: u32)
+        requires { self.old.count ≤ 2 }
+        ensures { (noted self.new ≡ noted self.old ++ (bucket ∷ [])) × (self.new.count ≡ self.old.count + 1) }
+    {
+        self.met[self.count] = bucket;
+        self.count += 1;
     }
 }
 
@@ -126,7 +99,7 @@ fn walk_route(headed: &Headed, image: Image, key: u64) -> Result<End, Walk>
     let mut bucket = image.address(address::FIRST_BUCKETS, key);
     let mut walk = no_walk();
     'walk: loop {
-        walk = note(walk, bucket);
+        walk.note(bucket);
         let level = state.level_of(address::FIRST_BUCKETS, bucket);
         let judged = file::judge_bucket(headed.file, headed.header.slots, bucket, level, key);
         let fate = address::fate_at(address::FIRST_BUCKETS, judged.is_some(), bucket, level, key);
@@ -196,7 +169,7 @@ pub fn reach(file: &[u8], table: &[u8], client: u64, key: u64) -> Result<Reached
 // Writes a client's image after its first bucket sent the key on; where that kept it, the image stays as it stands.
 pub fn adjust(table: &mut [u8], client: u64, state: Image, image: Image, walk: Walk)
     requires { (8 * client + 8 ≤ length table.old) × (record_sound table.old client ≡ true)
-        × (image ≡ image_of table.old client) × ImageRoom first_buckets state × (walk.first ≤ most_buckets)
+        × (image ≡ image_of table.old client) × ImageRoom first_buckets state × (first_met walk ≤ most_buckets)
         × ((adjusted_by state image walk).level < 256) × ((adjusted_by state image walk).pointer < 65536) }
     ensures { table.new ≡ with_image table.old client (adjusted_by state image walk) }
 {
@@ -204,7 +177,7 @@ pub fn adjust(table: &mut [u8], client: u64, state: Image, image: Image, walk: W
     if kept {
         return;
     }
-    let first = walk.first;
+    let first = walk.met[0];
     let level = state.level_of(address::FIRST_BUCKETS, first);
     let next = image.adjusted(address::FIRST_BUCKETS, first, level, false);
     client::put_image(table, client, next);

@@ -1,6 +1,6 @@
 -- `load::insert_split` refuses lengths that do not fit and a threshold out of range, is stopped on its way, or goes on
 -- at the key's own bucket.
-use Rattle.std.proofs.Common.{rules, ℕ, List, ap, ◌∙◌}
+use Rattle.std.proofs.Common.{ℕ, List, ap, ◌∙◌}
 use Rattle.layout.specs.Replies.Refused.{number_some}
 use Rattle.load.specs.Load.{controlled}
 use Rattle.ride.specs.Call.{placed}
@@ -13,9 +13,6 @@ returns-in_default c = search (load_unfit, unfit_payload, c.in_default.ensures)
 
 pub returns-in_default-as_mut_array : goal.returns-in_default-as_mut_array
 returns-in_default-as_mut_array c = search (load_unfit, unfit_answer, c.in_default-as_mut_array.ensures)
-
-pub refuse-requires : goal.refuse-requires
-refuse-requires c = search rules
 
 pub returns-then-not-ranged : goal.returns-then-not-ranged
 returns-then-not-ranged c = rw c.refuse.ensures.0
@@ -37,9 +34,6 @@ returns-in-Ok c = let a = c.args in
           ∙ ap (λ (p : List ℕ). controlled a.file.now a.table.now a.client a.key a.threshold
           (placed a.file.now a.table.now a.client a.key p)) c.in-Some.ensures.cases.same,
     )
-
-pub refuse-requires-in-Err : goal.refuse-requires-in-Err
-refuse-requires-in-Err c = search c.in-Err.ensures
 
 pub returns-in-Err : goal.returns-in-Err
 returns-in-Err c = rw c.refuse-in-Err.ensures.0

@@ -15,7 +15,7 @@ use Rattle.client.specs.Table.{with_image}
 use Rattle.file.specs.File.Judge.{Known}
 use Rattle.file.specs.File.Split.{split_number, split_born}
 use Rattle.file.specs.declared.Header.{Header}
-use Rattle.route.specs.declared.Walk.{Walk}
+use Rattle.route.specs.declared.walk.Walk.{Walk}
 use Rattle.route.specs.Way.{own_of, held, full, noted, adjusted_by}
 use Rattle.route.specs.Way.Own.{held_is, full_is}
 use Rattle.route.specs.Way.Reach.{AtOwn}

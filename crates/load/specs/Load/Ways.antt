@@ -11,7 +11,7 @@ use Rattle.address.specs.Load.{percent, threshold_fits}
 use Rattle.address.specs.Load.Laws.{threshold_is}
 use Rattle.layout.specs.Bytes.Tests.{and_right}
 use Rattle.layout.specs.Replies.{reply}
-use Rattle.route.specs.declared.Walk.{Walk}
+use Rattle.route.specs.declared.walk.Walk.{Walk}
 use Rattle.route.specs.Way.{early, noted}
 use Rattle.route.specs.Way.Noted.{noted_none}
 use Rattle.route.specs.Way.Reach.{OnWay}

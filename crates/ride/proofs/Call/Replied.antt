@@ -7,7 +7,7 @@ use Rattle.client.specs.Table.{with_image}
 use Rattle.file.specs.File.{region_of, with_ride}
 use Rattle.file.specs.declared.Header.{Header}
 use Rattle.answer.specs.Answer.{block, no_payload}
-use Rattle.route.specs.declared.Walk.{Walk}
+use Rattle.route.specs.declared.walk.Walk.{Walk}
 use Rattle.route.specs.Way.{noted, adjusted_by}
 use Rattle.route.specs.Way.Reach.{AtOwn}
 use Rattle.ride.specs.Call.{placed}

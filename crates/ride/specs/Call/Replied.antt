@@ -15,7 +15,7 @@ use Rattle.client.specs.Table.{image_of, with_image}
 use Rattle.file.specs.File.{region_of, with_ride}
 use Rattle.file.specs.declared.Header.{Header}
 use Rattle.answer.specs.Answer.{block, no_payload}
-use Rattle.route.specs.declared.Walk.{Walk}
+use Rattle.route.specs.declared.walk.Walk.{Walk}
 use Rattle.route.specs.Way.{early, on_way, way_of, own_of, held, full, noted, adjusted_by}
 use Rattle.route.specs.Way.Own.{held_is, full_is}
 use Rattle.route.specs.Way.Reach.{OnWay, AtOwn, way_refused}
