@@ -18,9 +18,9 @@ fn entry(count: usize, place: usize, bucket: u32) -> u64
     ensures { result ≡ shown count place bucket % 65536 }
 {
     if place < count {
-        return (bucket % 65536) as u64;
+        return u64::from(bucket % 65536);
     }
-    address::NO_BUCKET as u64
+    u64::from(address::NO_BUCKET)
 }
 
 // The first eight bytes of an answer block as one number: the reply, the count and the route's entries.
@@ -31,14 +31,14 @@ fn start_of_block(reply: u8, walk: Walk) -> u64
     let x = entry(count, 0, walk.met[0]);
     let y = entry(count, 1, walk.met[1]);
     let z = entry(count, 2, walk.met[2]);
-    reply as u64 + count as u64 * 256 + x * 65536 + y * 4294967296 + z * 281474976710656
+    u64::from(reply) + count as u64 * 256 + x * 65536 + y * 4294967296 + z * 281474976710656
 }
 
 // Writes the count held of an answer block and the zeros behind it.
 fn put_count(answer: &mut [u8; BLOCK], count: u8)
     ensures { answer.new ≡ edit 8 (count ∷ replicate 15 0) answer.old }
 {
-    layout::write::<8>(answer, 8, count as u64);
+    layout::write::<8>(answer, 8, u64::from(count));
     layout::write::<8>(answer, 16, 0);
 }
 

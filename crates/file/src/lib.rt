@@ -93,9 +93,9 @@ fn ranges_fit(long: u64, header: Header) -> bool
 {
     let fits = figures_fit(
         long,
-        header.capacity as u64,
-        header.slots as u64,
-        header.most as u64,
+        u64::from(header.capacity),
+        u64::from(header.slots),
+        u64::from(header.most),
     );
     if !fits {
         return false;

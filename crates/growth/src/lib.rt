@@ -54,7 +54,7 @@ fn put_state(file: &mut [u8], state: Image)
 {
     let level = [state.level as u8];
     layout::put(file, 2, &level);
-    layout::write::<2>(file, 4, state.pointer as u64);
+    layout::write::<2>(file, 4, u64::from(state.pointer));
 }
 
 // Divides bucket n of a file with the new bucket, and lets the state grow.

@@ -97,7 +97,7 @@ pub fn view(file: &[u8], bucket: u64) -> &[u8]
         return &file[..0];
     };
     let buckets = header.state.buckets(address::FIRST_BUCKETS);
-    if buckets as u64 <= bucket {
+    if u64::from(buckets) <= bucket {
         return &file[..0];
     }
     let number = bucket as u32;
