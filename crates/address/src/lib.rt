@@ -6,7 +6,7 @@ ghost use Rattle.std.specs.Prelude.{◌≡◌, ◌-◌, ◌≤◌, ◌<◌, cond
 ghost use Rattle.address.specs.Limits.{first_buckets};
 ghost use Rattle.address.specs.Load.{percent, factor, due};
 ghost use Rattle.address.specs.Room.{widest, Room, ImageRoom};
-ghost use Rattle.address.specs.Rules.{span, hash, buckets, address, level, onward, fate, wrapped, adjusted};
+ghost use Rattle.address.specs.Rules.{span, hash, buckets, address, level, keeps, onward, fate, wrapped, adjusted};
 ghost use Rattle.address.specs.Rules.{child, splitting, newborn, grown, parent};
 
 // A level and a pointer: the file's own state (i, n), or the image of it that a client has.
@@ -14,6 +14,15 @@ ghost use Rattle.address.specs.Rules.{child, splitting, newborn, grown, parent};
 pub struct Image {
     pub level: u32,
     pub pointer: u32,
+}
+
+// A bucket by what decides which keys are its own: its number, its level and how many buckets a file starts with.
+#[derive(Clone, Copy, Debug, PartialEq, Eq)]
+pub struct Home {
+    pub first: u32,
+    pub bucket: u32,
+    pub level: u32,
+    ghost room: { Room first level },
 }
 
 // What a key meets at a bucket: kept there, sent on to a numbered bucket, or stopped because that
@@ -61,6 +70,15 @@ pub fn hash(first: u32, level: u32, key: u64) -> u32
         return (key % (1u64 << level)) as u32;
     }
     (key % u64::from(span(first, level))) as u32
+}
+
+impl Home {
+    // Whether a key belongs.
+    pub fn keeps(self, key: u64) -> bool
+        ensures { result ≡ keeps self.first self.bucket self.level key }
+    {
+        hash(self.first, self.level, key) == self.bucket
+    }
 }
 
 // Where a bucket sends a key that it does not keep.

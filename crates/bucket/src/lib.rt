@@ -10,6 +10,11 @@ ghost use Rattle.bucket.specs.Region.{slot_at, slot_used, key_at, head_sound, so
 ghost use Rattle.bucket.specs.Region.Single.{fingerprints, fingerprint, latest_of, Chained};
 ghost use Rattle.bucket.specs.Region.Single.{first_found, slots_judged, SoughtAt};
 
+use address::Home;
+
+// How many bytes a ride's payload has.
+pub const PAYLOAD: usize = 14;
+
 // How many fingerprints of keys there are.
 const FINGERPRINTS: usize = 512;
 
@@ -23,8 +28,8 @@ fn head_sound(region: &[u8], slots: u32, level: u32) -> bool
     ensures { result ≡ head_sound slots level region.now }
 {
     layout::has_mark(region, 0, b"LB")
-        & ((layout::read::<2>(region, 2) ^ level as u64 | layout::read::<2>(region, 6)) == 0)
-        & (layout::read::<2>(region, 4) <= slots as u64)
+        & ((layout::read::<2>(region, 2) ^ u64::from(level) | layout::read::<2>(region, 6)) == 0)
+        & (layout::read::<2>(region, 4) <= u64::from(slots))
 }
 
 // The key in a slot.
@@ -41,24 +46,6 @@ fn find(region: &[u8], count: usize, key: u64) -> Option<usize>
     ensures { result ≡ first_found region.now count key }
 {
     (0..count).position(|k| key_at(region, k) == key)
-}
-
-// A bucket by what decides which keys are its own: its number, its level and how many buckets a file starts with.
-#[derive(Clone, Copy)]
-struct Home {
-    first: u32,
-    bucket: u32,
-    level: u32,
-    ghost room: { Room first level },
-}
-
-impl Home {
-    // Whether a key belongs.
-    fn keeps(self, key: u64) -> bool
-        ensures { result ≡ keeps self.first self.bucket self.level key }
-    {
-        address::hash(self.first, self.level, key) == self.bucket
-    }
 }
 
 // Whether a slot is marked and its key, which is given, belongs.
@@ -112,7 +99,7 @@ fn seek(
         if key_at(region, slot) == key {
             return Some(slot);
         }
-        next = before[slot] as usize;
+        next = usize::from(before[slot]);
     }
     None
 }
@@ -137,14 +124,14 @@ fn slots_chained(
         }
         let mark = fingerprint(held);
         let next = latest[mark];
-        if seek(region, before, k, next as usize, held).is_some() {
+        if seek(region, before, k, usize::from(next), held).is_some() {
             return None;
         }
         before[k] = next;
         latest[mark] = (k + 1) as u8;
     }
     let last = latest[fingerprint(key)];
-    Some(seek(region, before, count, last as usize, key).unwrap_or(count))
+    Some(seek(region, before, count, usize::from(last), key).unwrap_or(count))
 }
 
 // The slot that holds a key, or the count, if each slot in use is marked, each key belongs and none stands twice: few
@@ -216,8 +203,8 @@ pub fn judge(
 }
 
 // Places a ride in the first free slot, and answers the count then held.
-pub fn place(region: &mut [u8], count: usize, key: u64, payload: &[u8]) -> usize
-    requires { (slot_at count + 24 ≤ length region.old) × (count < most_slots) × (length payload.now ≡ 14) }
+pub fn place(region: &mut [u8], count: usize, key: u64, payload: &[u8; PAYLOAD]) -> usize
+    requires { (slot_at count + 24 ≤ length region.old) × (count < most_slots) }
     ensures { (result ≡ count + 1)
         × (region.new ≡ edit 4 (le_bytes 2 (count + 1))
         (edit (slot_at count) (slot_bytes (record { key = key; payload = payload.now })) region.old)) }

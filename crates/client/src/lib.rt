@@ -78,18 +78,9 @@ pub fn put_image(table: &mut [u8], client: u64, image: Image)
     ensures { table.new ≡ with_image table.old client image }
 {
     let at = 8 * client as usize;
-    let level = image.level;
-    let pointer = image.pointer;
     layout::put(table, at, b"LC");
-    let figures = [
-        level as u8,
-        0,
-        (pointer % 256) as u8,
-        (pointer / 256 % 256) as u8,
-        0,
-        0,
-    ];
-    layout::put(table, at + 2, &figures);
+    let [low, high, ..] = image.pointer.to_le_bytes();
+    layout::put(table, at + 2, &[image.level as u8, 0, low, high, 0, 0]);
 }
 
 // Joins a client: its image becomes (0, 0), over any old content.

@@ -3,11 +3,12 @@
 
 ghost use Rattle.std.specs.Prelude.{◌≡◌, [], ◌+◌, ◌*◌, ◌-◌, ◌≤◌, ◌<◌, length, replicate};
 ghost use Rattle.address.specs.Limits.{most_slots};
-ghost use Rattle.address.specs.Room.{Room};
 ghost use Rattle.address.specs.Rules.{keeps};
 ghost use Rattle.layout.specs.Bytes.{edit, part};
 ghost use Rattle.bucket.specs.Region.{slot_at, count_of, head_bytes, encode, halved};
 ghost use Rattle.bucket.specs.Region.Divide.{Halves, Parted};
+
+use address::Home;
 
 // Writes a bucket's head.
 fn put_head(bytes: &mut [u8], at: usize, level: u32, count: usize)
@@ -57,19 +58,17 @@ fn part_rides(
     new: usize,
     slots: u32,
     count: usize,
-    first: u32,
-    home: u32,
-    level: u32,
+    home: Home,
 ) -> usize
-    requires { Room first level × Halves bytes.old slots old new count × (slots ≤ most_slots) }
-    ensures { Parted (keeps first home level) bytes.old slots old new count count result
+    requires { Halves bytes.old slots old new count × (slots ≤ most_slots) }
+    ensures { Parted (keeps home.first home.bucket home.level) bytes.old slots old new count count result
         bytes.new }
 {
     let mut stay = 0;
     for k in 0..count {
         let at = old + (8 + 24 * k);
         let key = layout::read::<8>(bytes, at + 2);
-        let kept = address::hash(first, level, key) == home;
+        let kept = home.keeps(key);
         copy_slot(bytes, at, new + (8 + 24 * (k - stay)));
         copy_slot(bytes, at, old + (8 + 24 * stay));
         stay += usize::from(kept);
@@ -78,21 +77,15 @@ fn part_rides(
 }
 
 // Divides a bucket with a new one behind it: the rides that belong to it at a level stay, the others move.
-pub fn divide(
-    bytes: &mut [u8],
-    old: usize,
-    new: usize,
-    slots: u32,
-    first: u32,
-    home: u32,
-    level: u32,
-)
-    requires { Room first level × Halves bytes.old slots old new (count_of (part old (slot_at slots) bytes.old))
+pub fn divide(bytes: &mut [u8], old: usize, new: usize, slots: u32, home: Home)
+    requires { Halves bytes.old slots old new (count_of (part old (slot_at slots) bytes.old))
         × (slots ≤ most_slots) }
-    ensures { bytes.new ≡ halved (keeps first home level) slots level old new bytes.old }
+    ensures { bytes.new
+        ≡ halved (keeps home.first home.bucket home.level) slots home.level old new bytes.old }
 {
     let count = layout::read::<2>(bytes, old + 4) as usize;
-    let stay = part_rides(bytes, old, new, slots, count, first, home, level);
+    let stay = part_rides(bytes, old, new, slots, count, home);
+    let level = home.level;
     close(bytes, old, slots, level, stay);
     close(bytes, new, slots, level, count - stay);
 }

@@ -1,4 +1,4 @@
-// Why a call on a whole file is refused; with 7 it names the unsound region.
+// Why a call on a file is refused, where a 7 may name the unsound region.
 ghost use Rattle.std.specs.Prelude.{◌≡◌};
 ghost use Rattle.file.specs.File.Fault.{fault_number, fault_region};
 ghost use Rattle.file.specs.declared.fault.Fault.TheVariants.{Plain};
@@ -7,7 +7,7 @@ use layout::Refused;
 use std::error::Error;
 use std::fmt;
 
-// A refusal, or the unsound region.
+// A refusal that names nothing, or 7 with the unsound region.
 #[derive(Clone, Copy, Debug, PartialEq, Eq)]
 pub enum Fault {
     Plain(Refused),

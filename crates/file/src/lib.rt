@@ -24,6 +24,14 @@ pub struct Header {
     pub most: u32,
 }
 
+// A file whose header is sound, lent for reading: its bytes, and the header's figures.
+#[derive(Clone, Copy, Debug, PartialEq, Eq)]
+pub struct Headed<'a> {
+    pub file: &'a [u8],
+    pub header: Header,
+    pub ghost known: { Known file.now header },
+}
+
 // Whether the figures are in range and the length is theirs.
 pub fn figures_fit(long: u64, capacity: u64, slots: u64, most: u64) -> bool
     ensures { result ≡ figures_fit long capacity slots most }
@@ -85,9 +93,9 @@ fn ranges_fit(long: u64, header: Header) -> bool
 {
     let fits = figures_fit(
         long,
-        header.capacity as u64,
-        header.slots as u64,
-        header.most as u64,
+        u64::from(header.capacity),
+        u64::from(header.slots),
+        u64::from(header.most),
     );
     if !fits {
         return false;
@@ -121,24 +129,6 @@ pub fn start(slots: u32, bucket: u32) -> usize
     16 + bucket as usize * (8 + 24 * slots as usize)
 }
 
-// A region of a file, as a part of it.
-pub fn region(file: &[u8], header: Header, number: u32) -> &[u8]
-    requires { Known file.now header × (number < most_of file.now) }
-    ensures { (result.now ≡ region_of file.now number) × (length result.now ≡ slot_at header.slots) }
-{
-    let at = start(header.slots, number);
-    let end = at + (8 + 24 * header.slots as usize);
-    &file[at..end]
-}
-
-// Whether a region of a file is all zero.
-pub fn region_zero(file: &[u8], header: Header, number: u32) -> bool
-    requires { Known file.now header × (number < most_of file.now) }
-    ensures { result ≡ all_zero (region_of file.now number) }
-{
-    layout::is_zero(region(file, header, number))
-}
-
 // The slot that holds a key in a bucket of a file, the count if none does; None if the bucket is unsound. It takes
 // numbers alone and cuts the region out itself: a struct, or a part that is handed back, would go through memory.
 pub fn judge_bucket(file: &[u8], slots: u32, bucket: u32, level: u32, key: u64) -> Option<usize>
@@ -157,32 +147,52 @@ pub fn judge_bucket(file: &[u8], slots: u32, bucket: u32, level: u32, key: u64) 
     )
 }
 
-// Whether a bucket of a file is sound.
-pub fn bucket_sound(file: &[u8], header: Header, bucket: u32) -> bool
-    requires { Known file.now header × (bucket < buckets_of file.now) }
-    ensures { result ≡ bucket_sound_in file.now bucket }
-{
-    let level = header.state.level_of(address::FIRST_BUCKETS, bucket);
-    judge_bucket(file, header.slots, bucket, level, 0).is_some()
-}
+impl<'a> Headed<'a> {
+    // A region, as a part of the file.
+    pub fn region(&self, number: u32) -> &'a [u8]
+        requires { number < most_of self.now.file.now }
+        ensures { (result.now ≡ region_of self.now.file.now number)
+            × (length result.now ≡ slot_at self.now.header.slots) }
+    {
+        let at = start(self.header.slots, number);
+        let end = at + (8 + 24 * self.header.slots as usize);
+        &self.file[at..end]
+    }
 
-// How many rides a sound bucket holds.
-pub fn held_in(file: &[u8], header: Header, bucket: u32) -> usize
-    requires { Known file.now header × (bucket < buckets_of file.now)
-        × (bucket_sound_in file.now bucket ≡ true) }
-    ensures { (result ≡ count_of (region_of file.now bucket)) × (result ≤ most_slots) }
-{
-    let at = start(header.slots, bucket);
-    layout::read::<2>(file, at + 4) as usize
-}
+    // Whether a region is all zero.
+    pub fn region_zero(&self, number: u32) -> bool
+        requires { number < most_of self.now.file.now }
+        ensures { result ≡ all_zero (region_of self.now.file.now number) }
+    {
+        layout::is_zero(self.region(number))
+    }
 
-// The key in a slot of a sound bucket.
-pub fn key_in(file: &[u8], header: Header, bucket: u32, slot: usize) -> u64
-    requires { Known file.now header × (bucket < buckets_of file.now) × (bucket_sound_in file.now bucket ≡ true)
-        × (slot < count_of (region_of file.now bucket)) }
-    ensures { result ≡ key_at (region_of file.now bucket) slot }
-{
-    bucket::key_at(region(file, header, bucket), slot)
+    // Whether a bucket is sound.
+    pub fn bucket_sound(&self, bucket: u32) -> bool
+        requires { bucket < buckets_of self.now.file.now }
+        ensures { result ≡ bucket_sound_in self.now.file.now bucket }
+    {
+        let level = self.header.state.level_of(address::FIRST_BUCKETS, bucket);
+        judge_bucket(self.file, self.header.slots, bucket, level, 0).is_some()
+    }
+
+    // How many rides a sound bucket holds.
+    pub fn held_in(&self, bucket: u32) -> usize
+        requires { (bucket < buckets_of self.now.file.now) × (bucket_sound_in self.now.file.now bucket ≡ true) }
+        ensures { (result ≡ count_of (region_of self.now.file.now bucket)) × (result ≤ most_slots) }
+    {
+        let at = start(self.header.slots, bucket);
+        layout::read::<2>(self.file, at + 4) as usize
+    }
+
+    // The key in a slot of a sound bucket.
+    pub fn key_in(&self, bucket: u32, slot: usize) -> u64
+        requires { (bucket < buckets_of self.now.file.now) × (bucket_sound_in self.now.file.now bucket ≡ true)
+            × (slot < count_of (region_of self.now.file.now bucket)) }
+        ensures { result ≡ key_at (region_of self.now.file.now bucket) slot }
+    {
+        bucket::key_at(self.region(bucket), slot)
+    }
 }
 
 // Places a ride in the first free slot of a sound bucket, and answers the count then held.
@@ -192,10 +202,10 @@ pub fn place_ride(
     bucket: u32,
     count: usize,
     key: u64,
-    payload: &[u8],
+    payload: &[u8; bucket::PAYLOAD],
 ) -> usize
     requires { Known file.old header × (bucket < buckets_of file.old) × (bucket_sound_in file.old bucket ≡ true)
-        × (count ≡ count_of (region_of file.old bucket)) × (count < header.slots) × (length payload.now ≡ 14) }
+        × (count ≡ count_of (region_of file.old bucket)) × (count < header.slots) }
     ensures { (result ≡ count + 1)
         × (file.new ≡ with_ride file.old bucket
         (record { key = key; payload = payload.now })) }

@@ -8,8 +8,8 @@ ghost use Rattle.file.specs.File.{divided, split, buckets_of, most_of, with_stat
 ghost use Rattle.file.specs.File.Judge.{Known};
 ghost use Rattle.growth.specs.Split.{answer_of, leaving};
 
-use address::Image;
-use file::{Fault, Header};
+use address::{Home, Image};
+use file::{Fault, Headed, Header};
 use layout::Refused;
 
 // The buckets of a split: the one that was divided, and the one that was born.
@@ -54,7 +54,7 @@ fn put_state(file: &mut [u8], state: Image)
 {
     let level = [state.level as u8];
     layout::put(file, 2, &level);
-    layout::write::<2>(file, 4, state.pointer as u64);
+    layout::write::<2>(file, 4, u64::from(state.pointer));
 }
 
 // Divides bucket n of a file with the new bucket, and lets the state grow.
@@ -68,15 +68,12 @@ pub fn divide(file: &mut [u8], header: Header, old: u32, new: u32)
     let state = header.state;
     let from = file::start(slots, old);
     let to = file::start(slots, new);
-    division::divide(
-        file,
-        from,
-        to,
-        slots,
-        address::FIRST_BUCKETS,
-        old,
-        state.level + 1,
-    );
+    let home = Home {
+        first: address::FIRST_BUCKETS,
+        bucket: old,
+        level: state.level + 1,
+    };
+    division::divide(file, from, to, slots, home);
     put_state(file, state.grown(address::FIRST_BUCKETS));
 }
 
@@ -87,7 +84,8 @@ fn split_into(file: &mut [u8], header: Header, old: u32, new: u32) -> Result<Div
         × (bucket_sound_in file.old old ≡ true) }
     ensures { leaving result file.new ≡ split file.old }
 {
-    if !file::region_zero(file, header, new) {
+    let headed = Headed { file, header };
+    if !headed.region_zero(new) {
         return Err(Fault::Region(new));
     }
     divide(file, header, old, new);
@@ -100,7 +98,8 @@ fn split_bucket(file: &mut [u8], header: Header) -> Result<Divided, Fault>
     ensures { leaving result file.new ≡ split file.old }
 {
     let old = header.state.splitting();
-    if !file::bucket_sound(file, header, old) {
+    let headed = Headed { file, header };
+    if !headed.bucket_sound(old) {
         return Err(Fault::Region(old));
     }
     let new = header.state.newborn(address::FIRST_BUCKETS);

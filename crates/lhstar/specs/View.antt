@@ -43,7 +43,8 @@ module _ (file : List ℕ) (a : ℕ) (some : 0 < length (view file a)) where
       by_number seen false e = absurd (none (view_high file a seen.sound (ltb-false a (buckets_of file) e)))
 
       by_header : (t : Bool) → header_sound file ≡ t → Viewed file a
-      by_header true e = by_number (known file (figures_of file) (sym (header_sound_lem file e))) (ltb a (buckets_of file))
+      by_header true e = by_number (known file (figures_of file) (sym (header_sound_lem file e)))
+          (ltb a (buckets_of file))
           refl
       by_header false e = absurd (none (view_header file a e))
 

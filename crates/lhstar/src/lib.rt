@@ -1,4 +1,4 @@
-// The calls of the library for C, each with the contract of the crate that has it.
+// The calls of the library for C: each is the call of the crate that has it, and what it comes to as numbers.
 #![tactic(auto)]
 
 ghost use Rattle.std.specs.Prelude.{◌≡◌};

@@ -10,17 +10,19 @@ ghost use Rattle.layout.specs.Replies.Refused.{given, number as number_of};
 ghost use Rattle.bucket.specs.Region.{count_of};
 ghost use Rattle.client.specs.Table.{image_of, record_sound, with_image};
 ghost use Rattle.file.specs.File.{buckets_of, most_of, region_of, bucket_sound_in, divided};
-ghost use Rattle.file.specs.File.Judge.{Known};
 ghost use Rattle.file.specs.declared.fault.Fault.TheVariants.{Plain};
-ghost use Rattle.route.specs.Way.{noted, adjusted_by};
+ghost use Rattle.route.specs.Way.{noted, first_met, adjusted_by};
 ghost use Rattle.route.specs.Way.Reach.{AtOwn};
 ghost use Rattle.answer.specs.Answer.{block, no_payload};
 ghost use Rattle.ride.specs.Call.{placed};
 ghost use Rattle.load.specs.Load.{number, decision, leaving, decided, controlled, insert_split};
-ghost use Rattle.load.specs.Load.Own.{refusal_at, Kept, Divisible};
+ghost use Rattle.ride.specs.Call.Own.{refusal_at};
+ghost use Rattle.load.specs.Load.Own.{Kept, Divisible};
 ghost use Rattle.load.specs.Load.Regions.{Sound, regions_of, regions_for, Roomy};
 
-use file::{Fault, Header};
+use answer::BLOCK;
+use bucket::PAYLOAD;
+use file::{Fault, Headed, Header};
 use growth::Divided;
 use layout::Refused;
 use route::{Reached, Stop};
@@ -55,8 +57,7 @@ pub enum Growth {
 }
 
 // Writes the block of a call that is refused on its way, and passes the refusal on.
-fn refuse(answer: &mut [u8], stop: Stop) -> Fault
-    requires { (length answer.old ≡ 24) × (stop.walk.count ≤ 3) }
+fn refuse(answer: &mut [u8; BLOCK], stop: Stop) -> Fault
     ensures { (result ≡ Plain stop.refused)
         × (answer.new ≡ block (number_of stop.refused) (noted stop.walk) 0 no_payload) }
 {
@@ -87,112 +88,66 @@ fn decide(header: Header, bucket: u32, count: u32, threshold: u64) -> Control
 }
 
 // Whether the bucket that a split divides is sound; the key's own bucket is known to be.
-fn old_sound(file: &[u8], header: Header, own: u32, old: u32) -> bool
-    requires { Known file.now header × (old < buckets_of file.now) × (bucket_sound_in file.now own ≡ true) }
-    ensures { result ≡ bucket_sound_in file.now old }
+fn old_sound(headed: &Headed, own: u32, old: u32) -> bool
+    requires { (old < buckets_of headed.now.file.now) × (bucket_sound_in headed.now.file.now own ≡ true) }
+    ensures { result ≡ bucket_sound_in headed.now.file.now old }
 {
     if old == own {
         return true;
     }
-    file::bucket_sound(file, header, old)
+    headed.bucket_sound(old)
 }
 
 // Judges the regions of a split: the bucket to be divided, then the region of the new one; the first that is unsound is
 // the error.
-fn judge_regions(file: &[u8], header: Header, own: u32) -> Result<(), u32>
-    requires { Known file.now header × (buckets_of file.now < most_of file.now)
-        × (bucket_sound_in file.now own ≡ true) }
-    ensures { result ≡ regions_of file.now }
+fn judge_regions(headed: &Headed, own: u32) -> Result<(), u32>
+    requires { (buckets_of headed.now.file.now < most_of headed.now.file.now)
+        × (bucket_sound_in headed.now.file.now own ≡ true) }
+    ensures { result ≡ regions_of headed.now.file.now }
 {
-    let old = header.state.splitting();
-    if !old_sound(file, header, own, old) {
+    let old = headed.header.state.splitting();
+    if !old_sound(headed, own, old) {
         return Err(old);
     }
-    let new = header.state.newborn(address::FIRST_BUCKETS);
-    if !file::region_zero(file, header, new) {
+    let new = headed.header.state.newborn(address::FIRST_BUCKETS);
+    if !headed.region_zero(new) {
         return Err(new);
     }
     Ok(())
 }
 
 // The regions of what is decided: those of a split that is to be done, else none to judge.
-fn judge_plan(file: &[u8], header: Header, own: u32, control: Control) -> Result<(), u32>
-    requires { Known file.now header × Roomy file.now control × (bucket_sound_in file.now own ≡ true) }
-    ensures { result ≡ regions_for file.now control }
+fn judge_plan(headed: &Headed, own: u32, control: Control) -> Result<(), u32>
+    requires { Roomy headed.now.file.now control × (bucket_sound_in headed.now.file.now own ≡ true) }
+    ensures { result ≡ regions_for headed.now.file.now control }
 {
     match control {
-        Control::Done => judge_regions(file, header, own),
+        Control::Done => judge_regions(headed, own),
         Control::NotDue => Ok(()),
         Control::NoRoom => Ok(()),
     }
 }
 
-// Why an insert is refused at the key's own bucket, if it is: 8, the key is held, or 9, no slot is free.
-fn insert_refusal(place: usize, count: usize, slots: u32) -> Result<(), Refused>
-    ensures { given result ≡ refusal_at place count slots }
-{
-    if place < count {
-        return Err(Refused::Held);
-    }
-    if slots as usize <= count {
-        return Err(Refused::Full);
-    }
-    Ok(())
-}
-
-// An insert that is refused at the key's own bucket: the image is adjusted all the same.
-fn turn_away(
-    table: &mut [u8],
-    client: u64,
-    answer: &mut [u8],
-    reached: Reached,
-    refused: Refused,
-) -> Fault
-    requires { (length answer.old ≡ 24) × (reached.walk.count ≤ 3) × (8 * client + 8 ≤ length table.old)
-        × (record_sound table.old client ≡ true) × (reached.image ≡ image_of table.old client)
-        × ImageRoom first_buckets reached.header.state × (reached.walk.first ≤ most_buckets)
-        × ((adjusted_by reached.header.state reached.image reached.walk).level < 256)
-        × ((adjusted_by reached.header.state reached.image reached.walk).pointer < 65536) }
-    ensures { (result ≡ Plain refused)
-        × (answer.new ≡ block (number_of refused) (noted reached.walk) 0 no_payload)
-        × (table.new ≡ with_image table.old client (adjusted_by reached.header.state reached.image reached.walk)) }
-{
-    let walk = reached.walk;
-    route::adjust(table, client, reached.header.state, reached.image, walk);
-    refuse(answer, Stop { refused, walk })
-}
-
-// Writes what an accepted insert writes: the client's image, the ride and the block.
+// Writes what an accepted insert writes, and keeps of the file what its split needs.
 fn place(
     file: &mut [u8],
     table: &mut [u8],
     client: u64,
     key: u64,
-    payload: &[u8],
-    answer: &mut [u8],
+    payload: &[u8; PAYLOAD],
+    answer: &mut [u8; BLOCK],
     reached: Reached,
     count: usize,
 )
-    requires { (length answer.old ≡ 24) × (length payload.now ≡ 14)
-        × AtOwn file.old table.old client key reached.header reached.image reached.walk reached.bucket reached.place
+    requires { AtOwn file.old table.old client key reached.header reached.image reached.walk reached.bucket
+        reached.place
         × (count ≡ count_of (region_of file.old reached.bucket))
         × (refusal_at reached.place count reached.header.slots ≡ 0) }
     ensures { (record { answer = 0; block = answer.new; table = table.new; file = file.new }
         ≡ placed file.old table.old client key payload.now)
         × Kept file.old file.new reached.header }
 {
-    let header = reached.header;
-    route::adjust(table, client, header.state, reached.image, reached.walk);
-    ride::put_placed(
-        file,
-        header,
-        reached.bucket,
-        count,
-        key,
-        payload,
-        reached.walk,
-        answer,
-    );
+    ride::place(file, table, client, key, payload, answer, reached, count);
 }
 
 // Divides bucket n of a file for which all is judged: its two buckets.
@@ -213,14 +168,14 @@ fn commit(
     table: &mut [u8],
     client: u64,
     key: u64,
-    payload: &[u8],
-    answer: &mut [u8],
+    payload: &[u8; PAYLOAD],
+    answer: &mut [u8; BLOCK],
     reached: Reached,
     count: usize,
     control: Control,
 ) -> Result<Growth, Fault>
-    requires { (length answer.old ≡ 24) × (length payload.now ≡ 14)
-        × AtOwn file.old table.old client key reached.header reached.image reached.walk reached.bucket reached.place
+    requires { AtOwn file.old table.old client key reached.header reached.image reached.walk reached.bucket
+        reached.place
         × (count ≡ count_of (region_of file.old reached.bucket))
         × (refusal_at reached.place count reached.header.slots ≡ 0) × Roomy file.old control
         × (regions_for file.old control ≡ Sound) }
@@ -242,14 +197,14 @@ fn accept(
     table: &mut [u8],
     client: u64,
     key: u64,
-    payload: &[u8],
+    payload: &[u8; PAYLOAD],
     threshold: u64,
-    answer: &mut [u8],
+    answer: &mut [u8; BLOCK],
     reached: Reached,
     count: usize,
 ) -> Result<Growth, Fault>
-    requires { (length answer.old ≡ 24) × (length payload.now ≡ 14) × (threshold ≤ percent)
-        × AtOwn file.old table.old client key reached.header reached.image reached.walk reached.bucket reached.place
+    requires { (threshold ≤ percent) × AtOwn file.old table.old client key reached.header reached.image reached.walk
+        reached.bucket reached.place
         × (count ≡ count_of (region_of file.old reached.bucket)) × (count ≤ most_slots)
         × (refusal_at reached.place count reached.header.slots ≡ 0) }
     ensures { leaving result answer.new table.new file.new
@@ -258,7 +213,7 @@ fn accept(
 {
     let header = reached.header;
     let control = decide(header, reached.bucket, (count + 1) as u32, threshold);
-    match judge_plan(file, header, reached.bucket, control) {
+    match judge_plan(&Headed { file, header }, reached.bucket, control) {
         Ok(()) => commit(
             file, table, client, key, payload, answer, reached, count, control,
         ),
@@ -277,24 +232,25 @@ fn finish(
     table: &mut [u8],
     client: u64,
     key: u64,
-    payload: &[u8],
+    payload: &[u8; PAYLOAD],
     threshold: u64,
-    answer: &mut [u8],
+    answer: &mut [u8; BLOCK],
     reached: Reached,
 ) -> Result<Growth, Fault>
-    requires { (length answer.old ≡ 24) × (length payload.now ≡ 14) × (threshold ≤ percent)
-        × AtOwn file.old table.old client key reached.header reached.image reached.walk reached.bucket reached.place }
+    requires { (threshold ≤ percent) × AtOwn file.old table.old client key reached.header reached.image reached.walk
+        reached.bucket reached.place }
     ensures { leaving result answer.new table.new file.new
         ≡ controlled file.old table.old client key threshold
         (placed file.old table.old client key payload.now) }
 {
     let header = reached.header;
-    let count = file::held_in(file, header, reached.bucket);
-    match insert_refusal(reached.place, count, header.slots) {
+    let headed = Headed { file, header };
+    let count = headed.held_in(reached.bucket);
+    match ride::insert_refusal(reached.place, count, header.slots) {
         Ok(()) => accept(
             file, table, client, key, payload, threshold, answer, reached, count,
         ),
-        Err(refused) => Err(turn_away(table, client, answer, reached, refused)),
+        Err(refused) => Err(Fault::Plain(ride::turn_away(table, client, answer, reached, refused))),
     }
 }
 
@@ -313,10 +269,12 @@ pub fn insert_split(
         ≡ insert_split file.old table.old client key payload.now threshold
         answer.old }
 {
-    let fits = (answer.len() == 24) & (payload.len() == 14);
-    if !fits {
+    let Some(payload) = payload.as_array() else {
         return Err(Fault::Plain(Refused::Lengths));
-    }
+    };
+    let Some(answer) = answer.as_mut_array() else {
+        return Err(Fault::Plain(Refused::Lengths));
+    };
     let ranged = (1 <= threshold) & (threshold <= address::PERCENT);
     if !ranged {
         let refused = Refused::Threshold;

@@ -3,6 +3,7 @@
 pub mod After
 pub mod Keeping
 pub mod Left
+pub mod Own
 pub mod Placing
 pub mod Replied
 use Rattle.std.specs.Prelude.{ℕ, suc, Bool, cond, not, ◌&&◌, List, eqb, length}
@@ -29,9 +30,9 @@ pub record Outcome : Type 0 where
 abbrev pub found : Bool → ℕ
 found held = cond held 0 1
 
-abbrev pub replied : Result Bool Refused → ℕ
-replied (Ok held) = found held
-replied (Err refused) = number refused
+abbrev pub search_number : Result Bool Refused → ℕ
+search_number (Ok held) = found held
+search_number (Err refused) = number refused
 
 -- The image after the call: adjusted with 0, 1, 8 and 9, and with nothing else.
 pub adjusted_table : List ℕ → List ℕ → ℕ → ℕ → List ℕ

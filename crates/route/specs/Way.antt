@@ -6,7 +6,7 @@ pub mod Open
 pub mod Own
 pub mod Reach
 pub mod Route
-use Rattle.std.specs.Prelude.{ℕ, Bool, cond, not, List, [], ◌∷◌, ◌++◌, leb, ltb, eqb, take}
+use Rattle.std.specs.Prelude.{ℕ, Bool, cond, not, List, [], ◌∷◌, ◌++◌, leb, ltb, eqb, take, get_or}
 use Rattle.address.specs.Limits.{first_buckets}
 use Rattle.address.specs.declared.Image.{Image}
 use Rattle.address.specs.Rules.{buckets, address, level, adjusted, route}
@@ -14,7 +14,7 @@ use Rattle.layout.specs.Replies.{Refusal, refuse, reply}
 use Rattle.bucket.specs.Region.{count_of, slot_of, every}
 use Rattle.client.specs.Table.{image_of, caller_refusals}
 use Rattle.file.specs.File.{slots_of, state_of, buckets_of, header_sound, region_of, bucket_sound_in}
-use Rattle.route.specs.declared.Walk.{Walk}
+use Rattle.route.specs.declared.walk.Walk.{Walk}
 
 -- 2, 3, 4, 5, 6, before any route.
 pub early : List ℕ → List ℕ → ℕ → List Refusal
@@ -45,12 +45,16 @@ met_on file table client key = cond (eqb (reply (early file table client) 0) 0)
 
 -- The buckets that a walk has noted, at most three.
 pub noted : Walk → List ℕ
-noted walk = take walk.count (walk.first ∷ walk.second ∷ walk.third ∷ [])
+noted walk = take walk.count walk.met
+
+-- The first bucket of a walk.
+abbrev pub first_met : Walk → ℕ
+first_met walk = get_or walk.met 0 0
 
 -- The image after a walk, by its first bucket, which kept the key if it is the only one.
 abbrev pub adjusted_by : Image → Image → Walk → Image
 adjusted_by state image walk =
-    adjusted first_buckets image walk.first (level first_buckets state walk.first) (eqb walk.count 1)
+    adjusted first_buckets image (first_met walk) (level first_buckets state (first_met walk)) (eqb walk.count 1)
 
 -- The key's own bucket, whether it holds the key, and whether it holds S records.
 pub own_of : List ℕ → ℕ → ℕ

@@ -1,32 +1,25 @@
 // A client's refusals, a key's route, and the client's image after it.
 #![tactic(auto)]
 
+mod walk;
+
 ghost use Rattle.std.specs.Prelude.{◌≡◌, true, ◌++◌, ◌∷◌, [], ◌+◌, ◌*◌, ◌≤◌, ◌<◌, length, IfOk, IfErr};
 ghost use Rattle.address.specs.Limits.{first_buckets, most_level, most_buckets};
 ghost use Rattle.address.specs.Room.{ImageRoom};
 ghost use Rattle.address.specs.Rules.{Formed, NotAhead};
 ghost use Rattle.client.specs.Table.{image_of, record_sound, with_image};
 ghost use Rattle.file.specs.File.{state_of};
-ghost use Rattle.file.specs.File.Judge.{Known};
 ghost use Rattle.layout.specs.Replies.{reply};
 ghost use Rattle.layout.specs.Replies.Refused.{number, given};
-ghost use Rattle.route.specs.Way.{way_of, early, noted, adjusted_by};
+ghost use Rattle.route.specs.Way.{way_of, early, noted, first_met, adjusted_by};
 ghost use Rattle.route.specs.Way.Open.{Opening};
 ghost use Rattle.route.specs.Way.Reach.{OnWay, AtOwn};
 ghost use Rattle.route.specs.Way.Route.{Walked};
 
 use address::{Fate, Image};
-use file::Header;
+use file::{Headed, Header};
 use layout::Refused;
-
-// The buckets that a key has met, at most three.
-#[derive(Clone, Copy, Debug, PartialEq, Eq)]
-pub struct Walk {
-    pub count: u32,
-    pub first: u32,
-    pub second: u32,
-    pub third: u32,
-}
+pub use walk::Walk;
 
 // What a call starts with: the header and the client's image.
 #[derive(Clone, Copy, Debug, PartialEq, Eq)]
@@ -77,57 +70,38 @@ pub fn no_walk() -> Walk
     ensures { result.count ≡ 0 }
 {
     Walk {
+        met: [address::NO_BUCKET; 3],
         count: 0,
-        first: address::NO_BUCKET,
-        second: address::NO_BUCKET,
-        third: address::NO_BUCKET,
     }
 }
 
-// One bucket more.
-fn note(walk: Walk, bucket: u32) -> Walk
-    requires { walk.count ≤ 2 }
-    ensures { (noted result ≡ noted walk ++ (bucket ∷ [])) × (result.count ≡ walk.count + 1) }
-{
-    let count = walk.count + 1;
-    if walk.count == 0 {
-        return Walk {
-            count,
-            first: bucket,
-            second: walk.second,
-            third: walk.third,
-        };
-    }
-    if walk.count == 1 {
-        return Walk {
-            count,
-            first: walk.first,
-            second: bucket,
-            third: walk.third,
-        };
-    }
-    Walk {
-        count,
-        first: walk.first,
-        second: walk.second,
-        third: bucket,
+impl Walk {
+    // One bucket more, in place: a copy of the array would wait for the store of the bucket before.
+    fn note(&mut self, bucket: u32)
+        requires { self.old.count ≤ 2 }
+        ensures { (noted self.new ≡ noted self.old ++ (bucket ∷ [])) × (self.new.count ≡ self.old.count + 1) }
+    {
+        self.met[self.count] = bucket;
+        self.count += 1;
     }
 }
 
 // Walks a key's route from a client's image until a bucket keeps it, or is unsound.
-fn walk_route(file: &[u8], header: Header, image: Image, key: u64) -> Result<End, Walk>
-    requires { Known file.now header × (image.level ≤ most_level) × Formed first_buckets image
-        × NotAhead first_buckets (state_of file.now) image }
-    ensures reached { IfOk result (λ end. Walked file.now key (way_of file.now image key) end.walk end.bucket end.place 0) }
-    ensures stopped { IfErr result (λ walk. Walked file.now key (way_of file.now image key) walk 0 0 7) }
+fn walk_route(headed: &Headed, image: Image, key: u64) -> Result<End, Walk>
+    requires { (image.level ≤ most_level) × Formed first_buckets image
+        × NotAhead first_buckets (state_of headed.now.file.now) image }
+    ensures reached { IfOk result (λ end.
+        Walked headed.now.file.now key (way_of headed.now.file.now image key) end.walk end.bucket end.place 0) }
+    ensures stopped { IfErr result (λ walk.
+        Walked headed.now.file.now key (way_of headed.now.file.now image key) walk 0 0 7) }
 {
-    let state = header.state;
+    let state = headed.header.state;
     let mut bucket = image.address(address::FIRST_BUCKETS, key);
     let mut walk = no_walk();
     'walk: loop {
-        walk = note(walk, bucket);
+        walk.note(bucket);
         let level = state.level_of(address::FIRST_BUCKETS, bucket);
-        let judged = file::judge_bucket(file, header.slots, bucket, level, key);
+        let judged = file::judge_bucket(headed.file, headed.header.slots, bucket, level, key);
         let fate = address::fate_at(address::FIRST_BUCKETS, judged.is_some(), bucket, level, key);
         match (fate, judged) {
             (Fate::Keep, Some(place)) => {
@@ -177,7 +151,7 @@ pub fn reach(file: &[u8], table: &[u8], client: u64, key: u64) -> Result<Reached
     let opened = open(file, table, client)?;
     let header = opened.header;
     let image = opened.image;
-    match walk_route(file, header, image, key) {
+    match walk_route(&Headed { file, header }, image, key) {
         Ok(end) => Ok(Reached {
             header,
             image,
@@ -195,7 +169,7 @@ pub fn reach(file: &[u8], table: &[u8], client: u64, key: u64) -> Result<Reached
 // Writes a client's image after its first bucket sent the key on; where that kept it, the image stays as it stands.
 pub fn adjust(table: &mut [u8], client: u64, state: Image, image: Image, walk: Walk)
     requires { (8 * client + 8 ≤ length table.old) × (record_sound table.old client ≡ true)
-        × (image ≡ image_of table.old client) × ImageRoom first_buckets state × (walk.first ≤ most_buckets)
+        × (image ≡ image_of table.old client) × ImageRoom first_buckets state × (first_met walk ≤ most_buckets)
         × ((adjusted_by state image walk).level < 256) × ((adjusted_by state image walk).pointer < 65536) }
     ensures { table.new ≡ with_image table.old client (adjusted_by state image walk) }
 {
@@ -203,7 +177,7 @@ pub fn adjust(table: &mut [u8], client: u64, state: Image, image: Image, walk: W
     if kept {
         return;
     }
-    let first = walk.first;
+    let first = walk.met[0];
     let level = state.level_of(address::FIRST_BUCKETS, first);
     let next = image.adjusted(address::FIRST_BUCKETS, first, level, false);
     client::put_image(table, client, next);

@@ -7,9 +7,8 @@ ghost use Rattle.address.specs.Limits.{first_buckets, no_bucket};
 ghost use Rattle.address.specs.Rules.First.{better};
 ghost use Rattle.layout.specs.Bytes.{edit};
 ghost use Rattle.file.specs.File.{buckets_of, bucket_sound_in};
-ghost use Rattle.file.specs.File.Judge.{Known};
-ghost use Rattle.scan.specs.Scan.{of_lift, keys_in, matches_on, visits_of, first_unsound, answer_of, collected, leaving};
-ghost use Rattle.scan.specs.Scan.{scan};
+ghost use Rattle.scan.specs.Scan.{of_lift, keys_in, matches_on, visits_of, first_unsound, answer_of, collected};
+ghost use Rattle.scan.specs.Scan.{leaving, scan};
 ghost use Rattle.scan.specs.Scan.Bits.{bits_of, selected};
 ghost use Rattle.scan.specs.Scan.Notes.{Noted};
 ghost use Rattle.scan.specs.Scan.Tally.{AllJudged};
@@ -17,7 +16,7 @@ ghost use Rattle.scan.specs.Scan.Unsound.{unsound, Lowest};
 ghost use Rattle.scan.specs.Scan.Way.{Starting, Way};
 
 use address::{FIRST_BUCKETS, Image};
-use file::{Fault, Header};
+use file::{Fault, Headed};
 use layout::Refused;
 
 // How many entries each list of a scan got.
@@ -73,14 +72,14 @@ fn of_lift(key: u64, lift: u32) -> bool
 }
 
 // Which keys of a sound bucket are of a lift, a bit for each, the first key's the lowest.
-fn match_bits(file: &[u8], header: Header, bucket: u32, lift: u32) -> u64
-    requires { Known file.now header × (bucket < buckets_of file.now)
-        × (bucket_sound_in file.now bucket ≡ true) }
-    ensures { result ≡ bits_of lift (keys_in file.now bucket) }
+fn match_bits(headed: &Headed, bucket: u32, lift: u32) -> u64
+    requires { (bucket < buckets_of headed.now.file.now)
+        × (bucket_sound_in headed.now.file.now bucket ≡ true) }
+    ensures { result ≡ bits_of lift (keys_in headed.now.file.now bucket) }
 {
     let mut bits = 0;
-    for k in (0..file::held_in(file, header, bucket)).rev() {
-        let matching = of_lift(file::key_in(file, header, bucket, k), lift);
+    for k in (0..headed.held_in(bucket)).rev() {
+        let matching = of_lift(headed.key_in(bucket, k), lift);
         bits = bits * 2 + u64::from(matching);
     }
     bits
@@ -98,32 +97,31 @@ fn note(notes: &mut [u64], bucket: u32, bits: u64)
 }
 
 // The bits of a bucket's matches: as noted, or found again.
-fn bits_of(file: &[u8], header: Header, bucket: u32, lift: u32, notes: &[u64]) -> u64
-    requires { Known file.now header × (bucket < buckets_of file.now)
-        × Noted file.now lift notes.now (buckets_of file.now) }
-    ensures { result ≡ bits_of lift (keys_in file.now bucket) }
+fn bits_of(headed: &Headed, bucket: u32, lift: u32, notes: &[u64]) -> u64
+    requires { (bucket < buckets_of headed.now.file.now)
+        × Noted headed.now.file.now lift notes.now (buckets_of headed.now.file.now) }
+    ensures { result ≡ bits_of lift (keys_in headed.now.file.now bucket) }
 {
     let place = bucket as usize;
     if place < notes.len() {
         return notes[place];
     }
-    match_bits(file, header, bucket, lift)
+    match_bits(headed, bucket, lift)
 }
 
-// Judges the buckets in number order up to the first unsound one, which is the error, notes which keys match, and counts
-// the matches if all are sound.
-fn judge_all(file: &[u8], header: Header, lift: u32, notes: &mut [u64]) -> Result<u32, u32>
-    requires { Known file.now header }
-    ensures sound { IfOk result (λ matches. AllJudged file.now lift true no_bucket matches notes.new) }
-    ensures unsound { IfErr result (λ lowest. AllJudged file.now lift false lowest 0 notes.new) }
+// Judges the buckets in number order up to the first unsound one, which is the error; notes which keys match, and
+// counts the matches if all are sound.
+fn judge_all(headed: &Headed, lift: u32, notes: &mut [u64]) -> Result<u32, u32>
+    ensures sound { IfOk result (λ matches. AllJudged headed.now.file.now lift true no_bucket matches notes.new) }
+    ensures unsound { IfErr result (λ lowest. AllJudged headed.now.file.now lift false lowest 0 notes.new) }
 {
-    let buckets = header.state.buckets(FIRST_BUCKETS);
+    let buckets = headed.header.state.buckets(FIRST_BUCKETS);
     let mut matches = 0;
     for bucket in 0..buckets {
-        if !file::bucket_sound(file, header, bucket) {
+        if !headed.bucket_sound(bucket) {
             return Err(bucket);
         }
-        let matching = match_bits(file, header, bucket, lift);
+        let matching = match_bits(headed, bucket, lift);
         note(notes, bucket, matching);
         matches = matches + u64::count_ones(matching);
     }
@@ -132,11 +130,11 @@ fn judge_all(file: &[u8], header: Header, lift: u32, notes: &mut [u64]) -> Resul
 
 // Of the best bucket so far and the next: the next if it is unsound and visited earlier by a client that believes in so
 // many buckets.
-fn better(file: &[u8], header: Header, believed: u32, best: u32, next: u32) -> u32
-    requires { Known file.now header × (next < buckets_of file.now) × (0 < believed) }
-    ensures { result ≡ better first_buckets believed (unsound file.now) best next }
+fn better(headed: &Headed, believed: u32, best: u32, next: u32) -> u32
+    requires { (next < buckets_of headed.now.file.now) × (0 < believed) }
+    ensures { result ≡ better first_buckets believed (unsound headed.now.file.now) best next }
 {
-    if file::bucket_sound(file, header, next) {
+    if headed.bucket_sound(next) {
         return best;
     }
     if order::earlier(believed, next, best) {
@@ -146,36 +144,29 @@ fn better(file: &[u8], header: Header, believed: u32, best: u32, next: u32) -> u
 }
 
 // The unsound bucket that a scan by a client's image meets first, from the lowest one on.
-fn first_unsound(file: &[u8], header: Header, image: Image, lowest: u32) -> u32
-    requires { Starting file.now header image × Lowest file.now lowest }
-    ensures { result ≡ first_unsound file.now (visits_of file.now image) }
+fn first_unsound(headed: &Headed, image: Image, lowest: u32) -> u32
+    requires { Starting headed.now.file.now headed.now.header image × Lowest headed.now.file.now lowest }
+    ensures { result ≡ first_unsound headed.now.file.now (visits_of headed.now.file.now image) }
 {
     let believed = image.buckets(FIRST_BUCKETS);
-    let buckets = header.state.buckets(FIRST_BUCKETS);
+    let buckets = headed.header.state.buckets(FIRST_BUCKETS);
     if lowest < believed {
         return lowest;
     }
     let mut best = lowest;
     for next in lowest + 1..buckets {
-        best = better(file, header, believed, best, next);
+        best = better(headed, believed, best, next);
     }
     best
 }
 
 // Writes the keys of a sound bucket whose bit is set from a place on, and answers the place behind them.
-fn put_bucket(
-    file: &[u8],
-    header: Header,
-    bucket: u32,
-    bits: u64,
-    matches: &mut [u64],
-    from: usize,
-) -> usize
-    requires { Known file.now header × (bucket < buckets_of file.now) × (bucket_sound_in file.now bucket ≡ true)
-        × (bits < 2 ^ length (keys_in file.now bucket))
-        × (from + length (selected bits (keys_in file.now bucket)) ≤ length matches.old) }
-    ensures { (result ≡ from + length (selected bits (keys_in file.now bucket)))
-        × (matches.new ≡ edit from (selected bits (keys_in file.now bucket)) matches.old) }
+fn put_bucket(headed: &Headed, bucket: u32, bits: u64, matches: &mut [u64], from: usize) -> usize
+    requires { (bucket < buckets_of headed.now.file.now) × (bucket_sound_in headed.now.file.now bucket ≡ true)
+        × (bits < 2 ^ length (keys_in headed.now.file.now bucket))
+        × (from + length (selected bits (keys_in headed.now.file.now bucket)) ≤ length matches.old) }
+    ensures { (result ≡ from + length (selected bits (keys_in headed.now.file.now bucket)))
+        × (matches.new ≡ edit from (selected bits (keys_in headed.now.file.now bucket)) matches.old) }
 {
     let mut left = bits;
     let mut slot = 0;
@@ -183,7 +174,7 @@ fn put_bucket(
     while left != 0 {
         let zeros = u64::trailing_zeros(left);
         let found = slot + zeros as usize;
-        matches[filled] = file::key_in(file, header, bucket, found);
+        matches[filled] = headed.key_in(bucket, found);
         left = (left >> zeros) / 2;
         slot = found + 1;
         filled = filled + 1;
@@ -192,64 +183,49 @@ fn put_bucket(
 }
 
 // Writes the matches of a way.
-fn put_matches(
-    file: &[u8],
-    header: Header,
-    way: &[u16],
-    lift: u32,
-    notes: &[u64],
-    matches: &mut [u64],
-)
-    requires { Known file.now header × Way file.now way.now
-        × Noted file.now lift notes.now (buckets_of file.now)
-        × (length (matches_on file.now lift way.now) ≤ length matches.old) }
+fn put_matches(headed: &Headed, way: &[u16], lift: u32, notes: &[u64], matches: &mut [u64])
+    requires { Way headed.now.file.now way.now
+        × Noted headed.now.file.now lift notes.now (buckets_of headed.now.file.now)
+        × (length (matches_on headed.now.file.now lift way.now) ≤ length matches.old) }
     ensures { matches.new
-        ≡ edit 0 (matches_on file.now lift way.now) matches.old }
+        ≡ edit 0 (matches_on headed.now.file.now lift way.now) matches.old }
 {
     let mut filled = 0;
     for visit in way {
         let bucket = u32::from(*visit);
-        let bits = bits_of(file, header, bucket, lift, notes);
-        filled = put_bucket(file, header, bucket, bits, matches, filled);
+        let bits = bits_of(headed, bucket, lift, notes);
+        filled = put_bucket(headed, bucket, bits, matches, filled);
     }
 }
 
 // Writes the visits and the matches of a scan by a client's image, and answers how many visits there are.
 fn put_lists(
-    file: &[u8],
-    header: Header,
+    headed: &Headed,
     image: Image,
     lift: u32,
     notes: &[u64],
     visits: &mut [u16],
     matches: &mut [u64],
 ) -> u32
-    requires { Starting file.now header image × Noted file.now lift notes.now (buckets_of file.now)
-        × (buckets_of file.now ≤ length visits.old)
-        × (length (matches_on file.now lift (visits_of file.now image)) ≤ length matches.old) }
-    ensures { (result ≡ length (visits_of file.now image))
-        × (visits.new ≡ edit 0 (visits_of file.now image) visits.old)
-        × (matches.new ≡ edit 0 (matches_on file.now lift (visits_of file.now image))
+    requires { Starting headed.now.file.now headed.now.header image
+        × Noted headed.now.file.now lift notes.now (buckets_of headed.now.file.now)
+        × (buckets_of headed.now.file.now ≤ length visits.old)
+        × (length (matches_on headed.now.file.now lift (visits_of headed.now.file.now image)) ≤ length matches.old) }
+    ensures { (result ≡ length (visits_of headed.now.file.now image))
+        × (visits.new ≡ edit 0 (visits_of headed.now.file.now image) visits.old)
+        × (matches.new ≡ edit 0 (matches_on headed.now.file.now lift (visits_of headed.now.file.now image))
         matches.old) }
 {
-    let state = header.state;
+    let state = headed.header.state;
     let count = state.buckets(FIRST_BUCKETS);
     order::fill_visits(state, image, visits);
-    put_matches(
-        file,
-        header,
-        &visits[..count as usize],
-        lift,
-        notes,
-        matches,
-    );
+    put_matches(headed, &visits[..count as usize], lift, notes, matches);
     count
 }
 
 // The end of a scan in which every bucket is sound: 12, else both lists are written.
 fn write_lists(
-    file: &[u8],
-    header: Header,
+    headed: &Headed,
     image: Image,
     lift: u32,
     notes: &[u64],
@@ -257,63 +233,63 @@ fn write_lists(
     visits: &mut [u16],
     matches: &mut [u64],
 ) -> Result<Counts, Fault>
-    requires { Starting file.now header image × AllJudged file.now lift true no_bucket found notes.now
-        × (buckets_of file.now ≤ length visits.old) }
+    requires { Starting headed.now.file.now headed.now.header image
+        × AllJudged headed.now.file.now lift true no_bucket found notes.now
+        × (buckets_of headed.now.file.now ≤ length visits.old) }
     ensures { leaving (answer_of result) visits.new matches.new
-        ≡ collected file.now lift (visits_of file.now image) visits.old
+        ≡ collected headed.now.file.now lift (visits_of headed.now.file.now image) visits.old
         matches.old }
 {
     if matches.len() < found as usize {
         return Err(Fault::Plain(Refused::Matches));
     }
-    let count = put_lists(file, header, image, lift, notes, visits, matches);
+    let count = put_lists(headed, image, lift, notes, visits, matches);
     Ok(Counts {
         visits: count,
         matches: found,
     })
 }
 
-// Scans the buckets by a client's image, with room for notes: 7, 12, else both lists are written.
+// Scans the buckets by a client's image, with room for notes: 7, 12, else both lists are written. The file comes by
+// value: behind a reference the compiler would read its figures again after each write of a list.
 fn collect(
-    file: &[u8],
-    header: Header,
+    headed: Headed,
     image: Image,
     lift: u32,
     notes: &mut [u64],
     visits: &mut [u16],
     matches: &mut [u64],
 ) -> Result<Counts, Fault>
-    requires { Starting file.now header image × (buckets_of file.now ≤ length visits.old) }
+    requires { Starting headed.file.now headed.header image × (buckets_of headed.file.now ≤ length visits.old) }
     ensures { leaving (answer_of result) visits.new matches.new
-        ≡ collected file.now lift (visits_of file.now image) visits.old
+        ≡ collected headed.entry.file.now lift (visits_of headed.entry.file.now image) visits.old
         matches.old }
 {
-    match judge_all(file, header, lift, notes) {
-        Ok(found) => write_lists(file, header, image, lift, notes, found, visits, matches),
-        Err(lowest) => Err(Fault::Region(first_unsound(file, header, image, lowest))),
+    match judge_all(&headed, lift, notes) {
+        Ok(found) => write_lists(&headed, image, lift, notes, found, visits, matches),
+        Err(lowest) => Err(Fault::Region(first_unsound(&headed, image, lowest))),
     }
 }
 
 // The same with notes of its own, so that a scan that is refused before has none.
 fn collect_noting(
-    file: &[u8],
-    header: Header,
+    headed: Headed,
     image: Image,
     lift: u32,
     visits: &mut [u16],
     matches: &mut [u64],
 ) -> Result<Counts, Fault>
-    requires { Starting file.now header image × (buckets_of file.now ≤ length visits.old) }
+    requires { Starting headed.file.now headed.header image × (buckets_of headed.file.now ≤ length visits.old) }
     ensures { leaving (answer_of result) visits.new matches.new
-        ≡ collected file.now lift (visits_of file.now image) visits.old
+        ≡ collected headed.entry.file.now lift (visits_of headed.entry.file.now image) visits.old
         matches.old }
 {
-    if header.state.buckets(FIRST_BUCKETS) as usize <= FEW_NOTES {
+    if headed.header.state.buckets(FIRST_BUCKETS) as usize <= FEW_NOTES {
         let mut few = [0u64; FEW_NOTES];
-        return collect(file, header, image, lift, &mut few, visits, matches);
+        return collect(headed, image, lift, &mut few, visits, matches);
     }
     let mut notes = [0u64; NOTES];
-    collect(file, header, image, lift, &mut notes, visits, matches)
+    collect(headed, image, lift, &mut notes, visits, matches)
 }
 
 // Scans a file for one lift through a client: 2 to 6, 11, 7, 12, else both counts.
@@ -334,5 +310,5 @@ pub fn scan(
     if visits.len() < header.state.buckets(FIRST_BUCKETS) as usize {
         return Err(Fault::Plain(Refused::Visits));
     }
-    collect_noting(file, header, image, lift, visits, matches)
+    collect_noting(Headed { file, header }, image, lift, visits, matches)
 }

@@ -8,10 +8,10 @@ ghost use Rattle.layout.specs.Replies.Refused.{given};
 ghost use Rattle.file.specs.File.{Checked, Created, buckets_of, bucket_sound_in, region_sound};
 ghost use Rattle.file.specs.File.{lowest_unsound, check, view};
 ghost use Rattle.file.specs.File.{header_bytes, created, create};
-ghost use Rattle.file.specs.File.Judge.{Known, Figures};
+ghost use Rattle.file.specs.File.Judge.{Figures};
 ghost use Rattle.upkeep.specs.Check.{checked};
 
-use file::{Fault, Header};
+use file::{Fault, Headed};
 use layout::Refused;
 
 // A check's reply for C, and the lowest unsound region with 7.
@@ -40,24 +40,24 @@ impl From<Result<(), Fault>> for CheckAnswer {
 }
 
 // Whether a region of a file is sound, a bucket's or one past the last bucket.
-fn region_sound(file: &[u8], header: Header, region: u32) -> bool
-    requires { Known file.now header × (region < header.most) }
-    ensures { result ≡ region_sound file.now region }
+fn region_sound(headed: &Headed, region: u32) -> bool
+    requires { region < headed.now.header.most }
+    ensures { result ≡ region_sound headed.now.file.now region }
 {
-    if region < header.state.buckets(address::FIRST_BUCKETS) {
-        return file::bucket_sound(file, header, region);
+    if region < headed.header.state.buckets(address::FIRST_BUCKETS) {
+        return headed.bucket_sound(region);
     }
-    file::region_zero(file, header, region)
+    headed.region_zero(region)
 }
 
 // The lowest unsound region, if there is one.
-fn lowest_unsound(file: &[u8], header: Header) -> Option<u32>
-    requires { Known file.now header }
-    ensures found { IfSome result (λ region. (region ≡ lowest_unsound file.now) × (region < header.most)) }
-    ensures none { IfNone result (header.most ≤ lowest_unsound file.now) }
+fn lowest_unsound(headed: &Headed) -> Option<u32>
+    ensures found { IfSome result (λ region.
+        (region ≡ lowest_unsound headed.now.file.now) × (region < headed.now.header.most)) }
+    ensures none { IfNone result (headed.now.header.most ≤ lowest_unsound headed.now.file.now) }
 {
-    for region in 0..header.most {
-        if !region_sound(file, header, region) {
+    for region in 0..headed.header.most {
+        if !region_sound(headed, region) {
             return Some(region);
         }
     }
@@ -71,22 +71,21 @@ pub fn check(file: &[u8]) -> Result<(), Fault>
     let Some(header) = file::header_of(file) else {
         return Err(Fault::Plain(Refused::Header));
     };
-    match lowest_unsound(file, header) {
+    match lowest_unsound(&Headed { file, header }) {
         Some(region) => Err(Fault::Region(region)),
         None => Ok(()),
     }
 }
 
 // The used slots of a sound bucket, as a part of the file.
-fn used_slots(file: &[u8], header: Header, bucket: u32) -> &[u8]
-    requires { Known file.now header × (bucket < buckets_of file.now)
-        × (bucket_sound_in file.now bucket ≡ true) }
-    ensures { result.now ≡ view file.now bucket }
+fn used_slots<'a>(headed: &Headed<'a>, bucket: u32) -> &'a [u8]
+    requires { (bucket < buckets_of headed.now.file.now) × (bucket_sound_in headed.now.file.now bucket ≡ true) }
+    ensures { result.now ≡ view headed.now.file.now bucket }
 {
-    let at = file::start(header.slots, bucket);
+    let at = file::start(headed.header.slots, bucket);
     let from = at + 8;
-    let to = from + 24 * layout::read::<2>(file, at + 4) as usize;
-    &file[from..to]
+    let to = from + 24 * layout::read::<2>(headed.file, at + 4) as usize;
+    &headed.file[from..to]
 }
 
 // The used slots of a bucket, as a part of the file; no byte of it if the header is unsound, the number is
@@ -98,14 +97,15 @@ pub fn view(file: &[u8], bucket: u64) -> &[u8]
         return &file[..0];
     };
     let buckets = header.state.buckets(address::FIRST_BUCKETS);
-    if buckets as u64 <= bucket {
+    if u64::from(buckets) <= bucket {
         return &file[..0];
     }
     let number = bucket as u32;
-    if !file::bucket_sound(file, header, number) {
+    let headed = Headed { file, header };
+    if !headed.bucket_sound(number) {
         return &file[..0];
     }
-    used_slots(file, header, number)
+    used_slots(&headed, number)
 }
 
 // Writes the header of a new file.
@@ -115,13 +115,14 @@ fn put_figures(file: &mut [u8], capacity: u64, slots: u64, most: u64)
         ≡ edit 0 (header_bytes («at» 0 0) capacity slots most) file.old }
 {
     layout::put(file, 0, b"LF");
+    let [low, high, ..] = most.to_le_bytes();
     let figures = [
         0,
         capacity as u8,
         0,
         0,
-        (most % 256) as u8,
-        (most / 256 % 256) as u8,
+        low,
+        high,
         slots as u8,
         0,
         0,

@@ -3,8 +3,8 @@ use mathlib.Core.Path.{◌∙◌}
 use Rattle.answer.specs.Answer.Block.{forwards_other, forwards_met}
 use Rattle.answer.proofs.forwards.Goals as goal
 
-pub returns-then-answer-ne24 : goal.returns-then-answer-ne24
-returns-then-answer-ne24 c = search forwards_other
+pub returns-then-answer-ne-BLOCK : goal.returns-then-answer-ne-BLOCK
+returns-then-answer-ne-BLOCK c = search forwards_other
 
 pub returns : goal.returns
 returns c = c.saturating_sub.ensures ∙ search forwards_met

@@ -3,4 +3,4 @@ use Rattle.answer.specs.Answer.Block.{start_found}
 use Rattle.answer.proofs.start_of_block.Goals as goal
 
 pub returns : goal.returns
-returns c = search start_found
+returns c = rw c.from.ensures (search start_found)

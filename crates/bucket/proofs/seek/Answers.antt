@@ -7,7 +7,7 @@ pub loop-slot-init : goal.loop-slot-init
 loop-slot-init c = search sought_start
 
 pub loop-slot-smaller : goal.loop-slot-smaller
-loop-slot-smaller c = search (seek_less, c.in-Some.ensures)
+loop-slot-smaller c = rw c.from-next.ensures (search (seek_less, c.in-Some.ensures))
 
 pub loop-slot-preserved : goal.loop-slot-preserved
-loop-slot-preserved c = search (seek_next, c.in-Some.ensures)
+loop-slot-preserved c = rw c.from-next.ensures (search (seek_next, c.in-Some.ensures))

@@ -1,8 +1,9 @@
 -- `division::part_rides`: the rides so far are parted; each turn writes one behind both groups and counts it to one.
-use Rattle.std.proofs.Common.{◌≡◌, ◌∙◌, refl, Bool, true, false, cond}
+use Rattle.std.proofs.Common.{◌≡◌, ◌∙◌, refl, ap, Bool, true, false, cond}
 use Rattle.std.specs.Int.{from_bool}
 use Rattle.address.specs.Rules.{keeps}
-use Rattle.bucket.specs.Region.Divide.{parted_none, parted_done, stay_fits, part_next}
+use Rattle.address.specs.Rules.Cases.{keeps_is}
+use Rattle.bucket.specs.Region.Divide.{parted_none, part_next}
 use Rattle.division.proofs.part_rides.Goals as goal
 
 -- a ride that stays counts as one
@@ -12,16 +13,9 @@ one_is false = refl
 
 pub loop-k-init : goal.loop-k-init
 loop-k-init c = let a = c.args in
-    parted_none (keeps a.first a.home a.level) a.bytes.now a.slots a.old a.new a.count
-
-pub overflow_add-stay-in-loop-k : goal.overflow_add-stay-in-loop-k
-overflow_add-stay-in-loop-k c = stay_fits _ _ _ _ _ _ _ _ c.requires.1 c.loop-k.invariant c.loop-k-test.true
-    c.requires.2 _ (c.from-stay.ensures ∙ one_is _)
+    parted_none (keeps a.home.first a.home.bucket a.home.level) a.bytes.now a.slots a.old a.new a.count
 
 pub loop-k-preserved : goal.loop-k-preserved
-loop-k-preserved c = part_next _ _ _ _ _ _ _ _ c.requires.1 c.loop-k.invariant c.loop-k-test.true
-    c.read-key.ensures.number c.hash.ensures.0 c.copy_slot.ensures c.copy_slot-in-loop-k.ensures
-    (c.from-stay.ensures ∙ one_is _)
-
-pub returns : goal.returns
-returns c = search parted_done
+loop-k-preserved c = part_next _ _ _ _ _ _ _ _ c.requires.0 c.loop-k.invariant c.loop-k-test.true
+    c.read-key.ensures.number refl c.copy_slot.ensures c.copy_slot-in-loop-k.ensures
+    (c.from-stay.ensures ∙ one_is _ ∙ ap (λ (b : Bool). cond b 1 0) (c.keeps-kept.ensures ∙ keeps_is _ _ _ _))

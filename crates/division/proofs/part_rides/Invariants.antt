@@ -4,5 +4,5 @@ use Rattle.bucket.specs.Region.Divide.{Parted}
 use Rattle.division.proofs.part_rides.Given as goal
 
 abbrev pub invariant-loop-k : goal.invariant-loop-k
-invariant-loop-k l = Parted (keeps l.first l.home l.level) l.initial.bytes
+invariant-loop-k l = Parted (keeps l.home.first l.home.bucket l.home.level) l.initial.bytes
     l.slots l.old l.new l.count l.k l.stay l.bytes

@@ -13,6 +13,7 @@ pub returns : goal.returns
 returns c =
     let fits : (k : ℕ) → Fits w8 (get_or c.args.file.now k 0) = search rules in
     let bytes : Bytes c.args.file.now = λ k. (fits k).fits in
+    let paid : (k : ℕ) → Fits w8 (get_or c.args.payload.now k 0) = search rules in
     let whole : Whole (record { key = c.args.key; payload = c.args.payload.now }) =
-    record { small = c.ranges.key.fits; long = c.requires.5; bytes = λ k. (c.type_inv.payload k).fits } in
+    record { small = c.ranges.key.fits; long = search rules; bytes = λ k. (paid k).fits } in
     (search rules, search ride_lent)

@@ -1,4 +1,5 @@
--- The reply and the bucket that a refusal on a whole file stands for: 7 names the unsound region, and any other 65,535.
+-- The reply and the bucket that a refusal on a file stands for: 7 with the unsound region, or one that names nothing
+-- and has 65,535.
 use Rattle.std.specs.Prelude.{ℕ}
 use Rattle.address.specs.Limits.{no_bucket}
 use Rattle.layout.specs.Replies.Refused.{number}

@@ -4,7 +4,7 @@ use Rattle.std.proofs.Common.{rules}
 use Rattle.growth.proofs.split_bucket.Goals as goal
 
 pub bucket_sound-requires : goal.bucket_sound-requires
-bucket_sound-requires c = (search rules, search old_exists)
+bucket_sound-requires c = search old_exists
 
 pub returns-then-not-bucket_sound : goal.returns-then-not-bucket_sound
 returns-then-not-bucket_sound c = search split_bad

@@ -5,13 +5,13 @@ use Rattle.std.proofs.Common.{rules}
 use Rattle.load.proofs.accept.Goals as goal
 
 pub judge_plan-requires : goal.judge_plan-requires
-judge_plan-requires c = (search rules, search roomy, search rules)
+judge_plan-requires c = (search roomy, search rules)
 
 pub returns-in-Err : goal.returns-in-Err
 returns-in-Err c = search (load_unsound, c.in-Err.is)
 
 pub commit-requires : goal.commit-requires
-commit-requires c = (search, search, search, search, search, search roomy, search regions_passed)
+commit-requires c = (search, search, search, search roomy, search regions_passed)
 
 pub returns-in-Ok : goal.returns-in-Ok
 returns-in-Ok c = search load_decided

@@ -4,7 +4,7 @@ use Rattle.std.proofs.Common.{rules}
 use Rattle.load.proofs.judge_plan.Goals as goal
 
 pub judge_regions-requires : goal.judge_regions-requires
-judge_regions-requires c = (search rules, search room_done, search rules)
+judge_regions-requires c = (search room_done, search rules)
 
 pub returns-in-Done : goal.returns-in-Done
 returns-in-Done c = search regions_done

@@ -5,13 +5,13 @@ use Rattle.std.proofs.Common.{rules}
 use Rattle.load.proofs.judge_regions.Goals as goal
 
 pub old_sound-requires : goal.old_sound-requires
-old_sound-requires c = (search rules, search old_exists, search rules)
+old_sound-requires c = (search old_exists, search rules)
 
 pub returns-then-not-old_sound : goal.returns-then-not-old_sound
 returns-then-not-old_sound c = search regions_bad
 
 pub region_zero-requires : goal.region_zero-requires
-region_zero-requires c = (search rules, search new_there)
+region_zero-requires c = search new_there
 
 pub returns-then-not-region_zero : goal.returns-then-not-region_zero
 returns-then-not-region_zero c = search regions_used

@@ -15,15 +15,15 @@ use Rattle.client.specs.Table.{with_image}
 use Rattle.file.specs.File.Judge.{Known}
 use Rattle.file.specs.File.Split.{split_number, split_born}
 use Rattle.file.specs.declared.Header.{Header}
-use Rattle.route.specs.declared.Walk.{Walk}
+use Rattle.route.specs.declared.walk.Walk.{Walk}
 use Rattle.route.specs.Way.{own_of, held, full, noted, adjusted_by}
 use Rattle.route.specs.Way.Own.{held_is, full_is}
 use Rattle.route.specs.Way.Reach.{AtOwn}
 use Rattle.answer.specs.Answer.{block, no_payload}
 use Rattle.ride.specs.Call.{Outcome, placed}
 use Rattle.ride.specs.Call.Placing.{inserted_known, inserted_room}
-use Rattle.ride.specs.Call.Replied.{count_is, inserted_is, placed_done, insert_held, insert_full}
-use Rattle.ride.proofs.Call.Replied.{insert_done}
+use Rattle.ride.specs.Call.Own.{refusal_at, accepted_at, turned_away}
+use Rattle.ride.specs.Call.Replied.{count_is, inserted_is, placed_done}
 use Rattle.load.specs.declared.Control.{Control}
 use Rattle.load.specs.declared.Control.TheVariants.{NotDue, Done, NoRoom}
 use Rattle.load.specs.Load.{decision, decision_on, Loaded, alone, together, decided, controlled}
@@ -75,43 +75,6 @@ module _ (file table : List ℕ) (client key t : ℕ) where
 
 -- ---- at the key's own bucket
 
--- 8, the key is held; 9, no slot is free; by what was found there
-pub refusal_at : ℕ → ℕ → ℕ → ℕ
-refusal_at place count slots = cond (ltb place count) 8 (cond (leb slots count) 9 0)
-
-pub at_held : (place count slots : ℕ) → place < count → 8 ≡ refusal_at place count slots
-unfolding refusal_at
-at_held place count slots h = rw (lt-ltb place count h)
-
-module _ (place count slots : ℕ) (free : count ≤ place) where
-  pub at_full : slots ≤ count → 9 ≡ refusal_at place count slots
-  unfolding refusal_at
-  at_full h = rw (le-ltb place count free, le-leb slots count h)
-
-  pub at_free : count < slots → 0 ≡ refusal_at place count slots
-  unfolding refusal_at
-  at_free h = rw (le-ltb place count free, lt-leb slots count h)
-
-refusal_ways : (place count slots : ℕ) (P : ℕ → Type 0) → (ltb place count ≡ true → P 8)
-    → (ltb place count ≡ false → leb slots count ≡ true → P 9)
-    → (ltb place count ≡ false → leb slots count ≡ false → P 0) → P (refusal_at place count slots)
-unfolding refusal_at
-refusal_ways place count slots P there whole fine = go (ltb place count) refl (leb slots count) refl
-  where
-    go : (x : Bool) → ltb place count ≡ x → (y : Bool) → leb slots count ≡ y → P (cond x 8 (cond y 9 0))
-    go true ex y ey = there ex
-    go false ex true ey = whole ex ey
-    go false ex false ey = fine ex ey
-
-accepted_at : (place count slots : ℕ) → refusal_at place count slots ≡ 0
-    → (ltb place count ≡ false) × (leb slots count ≡ false)
-accepted_at place count slots = refusal_ways place count slots
-    (λ r. r ≡ 0 → (ltb place count ≡ false) × (leb slots count ≡ false))
-    (λ h e. absurd (omega (arith, e))) (λ h l e. absurd (omega (arith, e))) (λ h l e. (h, l))
-
-pub slot_free : (place count slots : ℕ) → refusal_at place count slots ≡ 0 → count < slots
-slot_free place count slots none = leb-false slots count (accepted_at place count slots none).1
-
 module _ {file table : List ℕ} {client key : ℕ} {header : Header} {image : Image} {walk : Walk} {a place : ℕ}
     (own : AtOwn file table client key header image walk a place) {count : ℕ}
     (en : count ≡ count_of (region_of file a)) where
@@ -122,17 +85,8 @@ module _ {file table : List ℕ} {client key : ℕ} {header : Header} {image : I
       → after ≡ with_image table client (adjusted_by header.state image walk)
       → record { answer = r; split = c; old = o; new = n; block = left; table = after; file = file }
       ≡ controlled file table client key t (placed file table client key payload)
-  load_away {refused} er some t payload {left = left} {after = after} e1 ec eo e2 el et =
-      refused_as file table client key t _ (subst Away (sym er) away some el) some e1 ec eo e2
-    where
-      Away : ℕ → Type 0
-      Away reply = (reply ≡ 0 → ⊥) → left ≡ block reply (noted walk) 0 no_payload
-          → record { answer = reply; block = left; table = after; file = file }
-          ≡ placed file table client key payload
-
-      away : Away (refusal_at place count header.slots)
-      away = refusal_ways place count header.slots Away (λ h z e. insert_held own et en payload h e)
-          (λ h l z e. insert_full own et en payload h l e) (λ h l z e. absurd (z refl))
+  load_away er some t payload e1 ec eo e2 el et =
+      refused_as file table client key t _ (turned_away own en er some payload el et) some e1 ec eo e2
 
   module _ (none : refusal_at place count header.slots ≡ 0) where
     free : held file key ≡ false
@@ -224,15 +178,6 @@ module _ {file table : List ℕ} {client key : ℕ} {header : Header} {image : I
 
       good : bucket_sound_in file (own_of file key) ≡ true
       good = ap (bucket_sound_in file) (sym own.own) ∙ own.good
-
-  pub placed_there : {left after next : List ℕ}
-      → after ≡ with_image table client (adjusted_by header.state image walk)
-      → next ≡ with_ride file a (record { key = key; payload = payload })
-      → left ≡ block 0 (noted walk) (count + 1) no_payload
-      → record { answer = 0; block = left; table = after; file = next } ≡ placed file table client key payload
-  placed_there et ef el =
-      let (h, l) = accepted_at place count header.slots none in
-      insert_done own et en payload h l ef el
 
 -- both, or the insert alone, by what was decided
 module _ (file table : List ℕ) (client key : ℕ) (payload : List ℕ) {left after next : List ℕ}

@@ -11,7 +11,7 @@ use Rattle.address.specs.Load.{percent, threshold_fits}
 use Rattle.address.specs.Load.Laws.{threshold_is}
 use Rattle.layout.specs.Bytes.Tests.{and_right}
 use Rattle.layout.specs.Replies.{reply}
-use Rattle.route.specs.declared.Walk.{Walk}
+use Rattle.route.specs.declared.walk.Walk.{Walk}
 use Rattle.route.specs.Way.{early, noted}
 use Rattle.route.specs.Way.Noted.{noted_none}
 use Rattle.route.specs.Way.Reach.{OnWay}
@@ -22,6 +22,10 @@ use Rattle.load.specs.declared.Control.{Control}
 use Rattle.load.specs.declared.Control.TheVariants.{NotDue}
 use Rattle.load.specs.Load.{Loaded, controlled, unranged, insert_split}
 use Rattle.load.specs.Load.Own.{as_loaded, refused_as}
+
+-- a threshold in range is at most the whole
+pub ranged_low : (t : ℕ) → not (leb 1 t && leb t percent) ≡ false → t ≤ percent
+ranged_low t ranged = leb-true t percent (and_right (leb 1 t) _ (not-false _ ranged))
 
 module _ (file table : List ℕ) (client key t : ℕ) where
   module _ (payload answer : List ℕ) where
@@ -82,7 +86,7 @@ module _ (file table : List ℕ) (client key t : ℕ) where
             ∙ ap (λ (b : Bool). b && false) (not-false fits right)
 
         pub load_low : t ≤ percent
-        load_low = leb-true t percent (and_right (leb 1 t) _ (not-false _ ranged))
+        load_low = ranged_low t ranged
 
         pub load_refused : {why : ℕ} → why ≡ reply (early file table client) 0 → (walk : Walk)
             → walk.count ≡ 0 → {left : List ℕ} → (why ≡ 0 → ⊥) → left ≡ block why (noted walk) 0 no_payload

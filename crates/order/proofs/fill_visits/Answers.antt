@@ -1,7 +1,8 @@
 -- `order::fill_visits`: the list holds all messages sent so far, of which the first ones are handled; each turn handles
 -- one and writes what it sends. Once all buckets have had their turn, the visits stand in the list.
 use Rattle.order.specs.Queue.{first_written, next_written}
-use Rattle.order.specs.Queue.{visiting_start, visiting_told, visiting_fits, visiting_sends, visiting_next, visiting_done}
+use Rattle.order.specs.Queue.{visiting_start, visiting_told, visiting_fits, visiting_sends, visiting_next}
+use Rattle.order.specs.Queue.{visiting_done}
 use Rattle.order.proofs.fill_visits.Goals as goal
 
 pub loop-handled-init : goal.loop-handled-init

@@ -7,10 +7,11 @@ use Rattle.client.specs.Table.{with_image}
 use Rattle.file.specs.File.{region_of, with_ride}
 use Rattle.file.specs.declared.Header.{Header}
 use Rattle.answer.specs.Answer.{block, no_payload}
-use Rattle.route.specs.declared.Walk.{Walk}
+use Rattle.route.specs.declared.walk.Walk.{Walk}
 use Rattle.route.specs.Way.{noted, adjusted_by}
 use Rattle.route.specs.Way.Reach.{AtOwn}
 use Rattle.ride.specs.Call.{placed}
+use Rattle.ride.specs.Call.Own.{refusal_at, accepted_at}
 use Rattle.ride.specs.Call.Replied.{count_is, inserted_is, placed_done, adjusted_is, held_at, full_at}
 
 module _ {file table : List ℕ} {client key : ℕ} {header : Header} {image : Image} {walk : Walk} {a place : ℕ}
@@ -31,3 +32,15 @@ module _ {file table : List ℕ} {client key : ℕ} {header : Header} {image : I
         file = inserted_is file key a own.own payload grown ex i;
       }) ∙ placed_done file table client key payload (held_at own et en h)
       (full_at own et en l)
+
+-- the same of a bucket at which nothing refuses
+pub placed_there : {file table : List ℕ} {client key : ℕ} {header : Header} {image : Image} {walk : Walk} {a place : ℕ}
+    → AtOwn file table client key header image walk a place → {count : ℕ} → count ≡ count_of (region_of file a)
+    → refusal_at place count header.slots ≡ 0 → (payload : List ℕ) → {left after next : List ℕ}
+    → after ≡ with_image table client (adjusted_by header.state image walk)
+    → next ≡ with_ride file a (record { key = key; payload = payload })
+    → left ≡ block 0 (noted walk) (count + 1) no_payload
+    → record { answer = 0; block = left; table = after; file = next } ≡ placed file table client key payload
+placed_there {header = header} {place = place} own {count} en none payload et ef el =
+    let (h, l) = accepted_at place count header.slots none in
+    insert_done own et en payload h l ef el

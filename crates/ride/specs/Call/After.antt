@@ -10,7 +10,7 @@ use Rattle.file.specs.File.{most_of, slots_of, buckets_of, start_of, region_of}
 use Rattle.file.specs.File.Region.{region_is, region_fits, sound_few}
 use Rattle.file.specs.File.Judge.{Known}
 use Rattle.file.specs.declared.Header.{Header}
-use Rattle.route.specs.declared.Walk.{Walk}
+use Rattle.route.specs.declared.walk.Walk.{Walk}
 use Rattle.route.specs.Way.{noted}
 use Rattle.route.specs.Way.Reach.{AtOwn}
 use Rattle.answer.specs.Answer.{block, no_payload}

@@ -15,7 +15,7 @@ use Rattle.client.specs.Table.{image_of, with_image}
 use Rattle.file.specs.File.{region_of, with_ride}
 use Rattle.file.specs.declared.Header.{Header}
 use Rattle.answer.specs.Answer.{block, no_payload}
-use Rattle.route.specs.declared.Walk.{Walk}
+use Rattle.route.specs.declared.walk.Walk.{Walk}
 use Rattle.route.specs.Way.{early, on_way, way_of, own_of, held, full, noted, adjusted_by}
 use Rattle.route.specs.Way.Own.{held_is, full_is}
 use Rattle.route.specs.Way.Reach.{OnWay, AtOwn, way_refused}
@@ -112,6 +112,19 @@ fits_answer x y h = eqb-true x 24 (and_left (eqb x 24) (eqb y 14) (not-false _ h
 
 pub fits_payload : (x y : ℕ) → not (eqb x 24 && eqb y 14) ≡ false → y ≡ 14
 fits_payload x y h = eqb-true y 14 (and_right (eqb x 24) (eqb y 14) (not-false _ h))
+
+pub both_fit : (x y : ℕ) → x ≡ 24 → y ≡ 14 → not (eqb x 24 && eqb y 14) ≡ false
+both_fit x y ex ey = rw (eq-eqb x 24 ex, eq-eqb y 14 ey)
+
+pub unfit_answer : (x y : ℕ) → (x ≡ 24 → ⊥) → not (eqb x 24 && eqb y 14) ≡ true
+unfit_answer x y h = rw (ne_eqb x 24 h)
+
+pub unfit_payload : (x y : ℕ) → (y ≡ 14 → ⊥) → not (eqb x 24 && eqb y 14) ≡ true
+unfit_payload x y h = rw (ne_eqb y 14 h) (go (eqb x 24))
+  where
+    go : (b : Bool) → not (b && false) ≡ true
+    go true = refl
+    go false = refl
 
 -- ---- at the key's own bucket
 

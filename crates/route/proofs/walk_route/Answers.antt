@@ -27,12 +27,14 @@ walk-preserved c = (search walk_short, search walk_sends)
 
 pub returns-in_default : goal.returns-in_default
 returns-in_default c = let a = c.args in
-    let stopped : Walked a.file.now a.key (way_of a.file.now a.image a.key) c.note-walk.result c.walk.bucket 0 7 =
+    let file = a.headed.now.file.now in
+    let stopped : Walked file a.key (way_of file a.image a.key) c.note.new.self c.walk.bucket 0 7 =
     search (walked_way, walk_lost) in
     record { reached = tt; stopped = stopped_any stopped }
 
 pub returns-in_default-2 : goal.returns-in_default-2
 returns-in_default-2 c = let a = c.args in
-    let stopped : Walked a.file.now a.key (way_of a.file.now a.image a.key) c.note-walk.result c.walk.bucket 0 7 =
+    let file = a.headed.now.file.now in
+    let stopped : Walked file a.key (way_of file a.image a.key) c.note.new.self c.walk.bucket 0 7 =
     search (walked_way, walk_stops) in
     record { reached = tt; stopped = stopped_any stopped }

@@ -6,7 +6,7 @@ use Rattle.route.proofs.walk_route.Given as goal
 
 abbrev pub invariant-walk : goal.invariant-walk
 invariant-walk l = (l.walk.count ≤ 2)
-    × Walking l.file l.key (way_from l.file l.key l.initial.bucket) l.walk l.bucket
+    × Walking l.headed.file.now l.key (way_from l.headed.file.now l.key l.initial.bucket) l.walk l.bucket
 
 abbrev pub decreases-walk : goal.decreases-walk
 decreases-walk l = 3 - l.walk.count

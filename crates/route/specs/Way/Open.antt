@@ -13,7 +13,7 @@ use Rattle.client.specs.Table.{image_of, record_sound, table_refusals, caller_re
 use Rattle.client.specs.Table.Caller.{caller_numbers, caller_numbered, caller_passes, caller_passed, calling}
 use Rattle.layout.specs.Replies.Passing.{passes_append, passes_split, passes_on, passes_back, refused_on}
 use Rattle.file.specs.File.{buckets_of, state_of, header_sound, header_of}
-use Rattle.file.specs.File.Judge.{Known, known, unknown, existing, header_parts}
+use Rattle.file.specs.File.Judge.{FiguresOf, Known, known, known_read, unknown, existing, header_parts}
 use Rattle.file.specs.File.Region.{buckets_known}
 use Rattle.file.specs.declared.Header.{Header}
 use Rattle.route.specs.Way.{early}
@@ -90,9 +90,9 @@ module _ (file table : List ℕ) (client : ℕ) (none : reply (early file table 
   pub open_there : 8 * client + 8 ≤ length table
   open_there = (calling table client not_refused refl).there
 
-  pub opening : {header : Header} {image : Image} → Known file header → image ≡ image_of table client
+  pub opening_known : {header : Header} {image : Image} → Known file header → image ≡ image_of table client
       → Opening file table client header image
-  opening seen e =
+  opening_known seen e =
       let caller = calling table client not_refused e in
       let passed = early_passes file table client none in
       record {
@@ -106,6 +106,11 @@ module _ (file table : List ℕ) (client : ℕ) (none : reply (early file table 
         behind = omega
             (arith, passed.3, ap (buckets first_buckets) e, existing file);
       }
+
+  -- the same by the figures that were read
+  pub opening : {header : Header} {image : Image} → FiguresOf file header → image ≡ image_of table client
+      → Opening file table client header image
+  opening read e = opening_known (known_read file (early_passes file table client none).2 read) e
 
 -- the judging function's way, test by test
 module _ (file table : List ℕ) (client : ℕ) {r : ℕ} (er : r ≡ reply (caller_refusals table client) 0) where
@@ -151,4 +156,4 @@ module _ (file table : List ℕ) (client : ℕ) {r : ℕ} (er : r ≡ reply (cal
           refusal_none h = sym (behind_header h)
 
           pub refusal_opens : ltb all believed ≡ false → Opening file table client header image
-          refusal_opens h = opening file table client (behind_header h) seen ei
+          refusal_opens h = opening_known file table client (behind_header h) seen ei

@@ -4,10 +4,10 @@ use Rattle.std.specs.Prelude.{ℕ, suc, ◌+◌, ◌*◌, ◌≤◌, ◌<◌, �
 use Rattle.std.proofs.Common.{sym, ap₂, ◌∙◌, ⊎_elim, arith, Fits}
 use Rattle.std.proofs.Math.Path.{ap}
 use mathlib.Core.List.{List, [], ◌∷◌, ◌++◌, append_assoc}
-use borrow.Author.Tests.{lt-ltb, eq-eqb, ne_eqb, not-false}
+use borrow.Author.Tests.{eq-eqb, ne_eqb, not-false}
 use Rattle.std.specs.Int.{w8}
 use Rattle.address.specs.Compare.{same}
-use Rattle.address.specs.Limits.{first_buckets, no_bucket, most_level, most_buckets}
+use Rattle.address.specs.Limits.{first_buckets, most_level, most_buckets}
 use Rattle.address.specs.declared.Image.{Image}
 use Rattle.address.specs.Rules.{Formed, NotAhead, hash, address, level, keeps, adjusted, image_after, route}
 use Rattle.address.specs.Rules.Cases.{buckets_is, keeps_yes, keeps_no, adjusted_kept}
@@ -23,9 +23,9 @@ use Rattle.layout.specs.Replies.Passing.{passes_split, passes_on, passes_back, r
 use Rattle.file.specs.File.{most_of, state_of, buckets_of, region_of, bucket_sound_in}
 use Rattle.file.specs.File.Judge.{Known, state_small, buckets_of_lem}
 use Rattle.file.specs.declared.Header.{Header}
-use Rattle.route.specs.declared.Walk.{Walk}
-use Rattle.route.specs.Way.{early, on_way, met_on, cut, way_of, own_of, noted, adjusted_by}
-use Rattle.route.specs.Way.Noted.{noted_length, noted_first, noted_none}
+use Rattle.route.specs.declared.walk.Walk.{Walk}
+use Rattle.route.specs.Way.{early, on_way, met_on, cut, way_of, own_of, noted, first_met, adjusted_by}
+use Rattle.route.specs.Way.Noted.{noted_start, noted_none}
 use Rattle.route.specs.Way.Open.{Opening, early_numbers, early_numbered}
 use Rattle.route.specs.Way.Route.{Ended, Walked, way_route}
 
@@ -124,7 +124,7 @@ after_small file seen image formed behind key = state_small (image_after first_b
 
 module _ (file : List ℕ) (header : Header) (seen : Known file header) (image : Image)
     (formed : Formed first_buckets image) (behind : NotAhead first_buckets (state_of file) image)
-    (key : ℕ) (walk : Walk) (few : walk.count ≤ 3) (a place : ℕ)
+    (key : ℕ) (walk : Walk) (told : length (noted walk) ≡ walk.count) (a place : ℕ)
     (ended : Ended file key (way_of file image key) walk a place) where
   way_is_route : noted walk ≡ route first_buckets (state_of file) image key
   way_is_route = ended.whole ∙ way_route file image key
@@ -136,13 +136,12 @@ module _ (file : List ℕ) (header : Header) (seen : Known file header) (image :
   counted =
       let (h, short, d) = delivered first_buckets some_first (state_of file) seen.ranges.formed image formed behind
       key in
-      (h, d, sym (noted_length walk few) ∙ ap length (way_is_route ∙ d.is) ∙ ap suc d.long)
+      (h, d, sym told ∙ ap length (way_is_route ∙ d.is) ∙ ap suc d.long)
 
-  walk_first : walk.first ≡ address first_buckets image key
+  walk_first : first_met walk ≡ address first_buckets image key
   walk_first =
       let (h, d, count) = counted in
-      sym (ap (λ (t : Bool). cond t walk.first no_bucket) (lt-ltb 0 walk.count ended.some))
-      ∙ sym (noted_first walk few) ∙ ap (λ (l : List ℕ). get_or l 0 no_bucket) (way_is_route ∙ d.is)
+      sym (noted_start walk ended.some) ∙ ap (λ (l : List ℕ). get_or l 0 0) (way_is_route ∙ d.is)
 
   -- the first bucket kept the key exactly if the route has one bucket
   walk_kept_first : eqb walk.count 1
@@ -150,7 +149,7 @@ module _ (file : List ℕ) (header : Header) (seen : Known file header) (image :
       (level first_buckets (state_of file) (address first_buckets image key)) key
   walk_kept_first = ⊎_elim
       (λ e. eq-eqb walk.count 1
-      (sym (noted_length walk few)
+      (sym told
       ∙ ap length
       (way_is_route ∙ route_right first_buckets some_first (state_of file) seen.ranges.formed image formed behind
       key e))
@@ -173,15 +172,15 @@ module _ (file : List ℕ) (header : Header) (seen : Known file header) (image :
           (sym (last_none (address first_buckets image key) d.rest (omega (arith, d.long))) ∙ d.ends)
 
   -- so the adjusted image is the image after the call
-  after_is : (l : ℕ) → l ≡ level first_buckets header.state walk.first
-      → adjusted first_buckets image walk.first l (eqb walk.count 1)
+  after_is : (l : ℕ) → l ≡ level first_buckets header.state (first_met walk)
+      → adjusted first_buckets image (first_met walk) l (eqb walk.count 1)
       ≡ image_after first_buckets (state_of file) image key
   after_is l el =
       (λ i. adjusted first_buckets image (walk_first i)
       ((el ∙ ap₂ (λ (s : Image) (x : ℕ). level first_buckets s x) seen.state walk_first) i) (walk_kept_first i))
       ∙ sym (image_after_is first_buckets (state_of file) image key)
 
-  first_small : walk.first ≤ most_buckets
+  first_small : first_met walk ≤ most_buckets
   first_small = omega (
     arith,
     walk_first,
@@ -214,7 +213,7 @@ pub record AtOwn (file table : List ℕ) (client key : ℕ) (header : Header) (i
   pub way : noted walk ≡ way_of file (image_of table client) key
   pub own : a ≡ own_of file key
   pub slot : place ≡ slot_of (region_of file a) key
-  pub first : walk.first ≤ most_buckets
+  pub first : first_met walk ≤ most_buckets
   pub low : (adjusted_by header.state image walk).level < 256
   pub near : (adjusted_by header.state image walk).pointer < 65536
   pub after : adjusted_by header.state image walk
@@ -257,7 +256,7 @@ module _ {file table : List ℕ} {client : ℕ} {header : Header} {image : Image
     way = ended.whole ∙ ap (λ (i : Image). way_of file i key) o.is;
     own = ended.own;
     slot = ended.slot;
-    first = first_small file header o.known image o.formed o.behind key walk walked.few a place ended;
+    first = first_small file header o.known image o.formed o.behind key walk walked.told a place ended;
     low = omega (arith, ap (λ (i : Image). i.level) after, small);
     near = omega (arith, ap (λ (i : Image). i.pointer) after, small);
     after = after ∙ ap (λ (i : Image). image_after first_buckets (state_of file) i key) o.is;
@@ -267,8 +266,8 @@ module _ {file table : List ℕ} {client : ℕ} {header : Header} {image : Image
       ended = walked.ended kept
 
       after : adjusted_by header.state image walk ≡ image_after first_buckets (state_of file) image key
-      after = after_is file header o.known image o.formed o.behind key walk walked.few a place ended
-          (level first_buckets header.state walk.first) refl
+      after = after_is file header o.known image o.formed o.behind key walk walked.told a place ended
+          (level first_buckets header.state (first_met walk)) refl
 
       small : ((image_after first_buckets (state_of file) image key).level ≤ most_level)
           × ((image_after first_buckets (state_of file) image key).pointer ≤ most_buckets)
@@ -282,15 +281,15 @@ pub kept_written : (table : List ℕ) (client : ℕ) (state image : Image) (walk
     → eqb walk.count 1 ≡ true → table ≡ with_image table client (adjusted_by state image walk)
 kept_written table client state image walk fits sound e bytes kept = sym
     (ap (with_image table client)
-    (ap (adjusted first_buckets image walk.first (level first_buckets state walk.first)) kept
-    ∙ adjusted_kept first_buckets image walk.first (level first_buckets state walk.first) ∙ e)
+    (ap (adjusted first_buckets image (first_met walk) (level first_buckets state (first_met walk))) kept
+    ∙ adjusted_kept first_buckets image (first_met walk) (level first_buckets state (first_met walk)) ∙ e)
     ∙ written_again table client sound (λ k. (bytes k).fits) fits)
 
 module _ (state image : Image) (walk : Walk) (sent : eqb walk.count 1 ≡ false) {l : ℕ}
-    (el : l ≡ level first_buckets state walk.first) {next : Image}
-    (en : next ≡ adjusted first_buckets image walk.first l false) where
+    (el : l ≡ level first_buckets state (first_met walk)) {next : Image}
+    (en : next ≡ adjusted first_buckets image (first_met walk) l false) where
   next_is : next ≡ adjusted_by state image walk
-  next_is = en ∙ ap₂ (λ (x : ℕ) (b : Bool). adjusted first_buckets image walk.first x b) el
+  next_is = en ∙ ap₂ (λ (x : ℕ) (b : Bool). adjusted first_buckets image (first_met walk) x b) el
       (sym sent)
 
   pub next_low : (adjusted_by state image walk).level < 256 → next.level < 256

@@ -1,7 +1,8 @@
 -- A route walked bucket by bucket: what is noted so far and what is still to come are the whole route, cut after its
 -- first unsound bucket.
 use Rattle.std.specs.Prelude.{ℕ, suc, ◌+◌, ◌-◌, ◌≤◌, ◌<◌, ◌≡◌, refl, Bool, true, false, cond, not}
-use Rattle.std.specs.Prelude.{Option, Some, None, is_some}
+use Rattle.std.specs.Prelude.{Option, Some, None, is_some, length}
+use Rattle.std.proofs.lemmas.List.{length_push}
 use Rattle.std.proofs.lemmas.Option.{cond_some}
 use Rattle.std.proofs.Common.{sym, ap₂, subst, ◌∙◌, ⊎_elim, arith}
 use Rattle.std.proofs.Math.Path.{ap}
@@ -22,7 +23,7 @@ use Rattle.bucket.specs.Region.Every.{every_none, every_first, every_rest, every
 use Rattle.file.specs.File.{state_of, buckets_of, region_of, bucket_sound_in}
 use Rattle.file.specs.File.Judge.{Known, buckets_of_lem}
 use Rattle.file.specs.declared.Header.{Header}
-use Rattle.route.specs.declared.Walk.{Walk}
+use Rattle.route.specs.declared.walk.Walk.{Walk}
 use Rattle.route.specs.Way.{cut, way_of, own_of, noted}
 use Rattle.route.specs.Way.Noted.{noted_none}
 use Rattle.route.specs.Way.Own.{own_is}
@@ -80,6 +81,7 @@ pub record Walking (file : List ℕ) (key : ℕ) (way : List ℕ) (walk : Walk) 
   pub reached : Reaches first_buckets (state_of file) key a left
   pub room : left < most
   pub few : walk.count + left ≤ 2
+  pub told : length (noted walk) ≡ walk.count
   pub whole : way ≡ noted walk ++ route_from first_buckets (state_of file) key most a
   pub fine : every (bucket_sound_in file) (noted walk) ≡ true
 
@@ -95,6 +97,7 @@ pub record Ended (file : List ℕ) (key : ℕ) (way : List ℕ) (walk : Walk) (a
 -- what a walk that ended tells: the route up to its first unsound bucket, and 7 if there is one
 pub record Walked (file : List ℕ) (key : ℕ) (way : List ℕ) (walk : Walk) (a place r : ℕ) : Type 0 where
   pub few : walk.count ≤ 3
+  pub told : length (noted walk) ≡ walk.count
   pub is : r ≡ cond (not (every (bucket_sound_in file) way)) 7 0
   pub met : noted walk ≡ cut (bucket_sound_in file) way
   pub ended : r ≡ 0 → Ended file key way walk a place
@@ -113,6 +116,7 @@ module _ (file : List ℕ) (key : ℕ) (formed : Formed first_buckets (state_of 
         reached = rw es r;
         room = omega (arith, reaches_room first_buckets some_first (state_of file) formed r);
         few = omega arith;
+        told = ap length (noted_none walk none) ∙ sym none;
         whole = ap
             (λ (l : List ℕ). l ++ route_from first_buckets (state_of file) key (buckets first_buckets (state_of file))
             start)
@@ -131,6 +135,10 @@ module _ (file : List ℕ) (key : ℕ) (formed : Formed first_buckets (state_of 
 
   module _ (way : List ℕ) (walk next : Walk) (a : ℕ) (so : Walking file key way walk a)
       (noting : noted next ≡ noted walk ++ (a ∷ [])) (counted : next.count ≡ walk.count + 1) where
+    -- the count stays that of what is noted
+    told : length (noted next) ≡ next.count
+    told = ap length noting ∙ length_push (noted walk) a ∙ ap (λ (n : ℕ). n + 1) so.told ∙ sym counted
+
     again : so.most ≡ suc (so.most - 1)
     again = omega (arith, so.room)
 
@@ -156,6 +164,7 @@ module _ (file : List ℕ) (key : ℕ) (formed : Formed first_buckets (state_of 
         let is : way ≡ noted walk ++ (a ∷ rest) = so.whole ∙ ap (λ (l : List ℕ). noted walk ++ l) e in
         record {
           few = omega (arith, so.few);
+          told = told;
           is = ap (λ (b : Bool). cond (not b) 7 0)
               (sym (ap (every (bucket_sound_in file)) is
               ∙ every_past (bucket_sound_in file) (noted walk) (a ∷ rest) so.fine
@@ -175,6 +184,7 @@ module _ (file : List ℕ) (key : ℕ) (formed : Formed first_buckets (state_of 
         ∙ ap (λ (l : List ℕ). noted walk ++ l) (route_kept first_buckets (state_of file) key (so.most - 1) a keeps) in
         record {
           few = omega (arith, so.few);
+          told = told;
           is = ap (λ (b : Bool). cond (not b) 7 0)
               (sym (ap (every (bucket_sound_in file)) is
               ∙ every_past (bucket_sound_in file) (noted walk) (a ∷ []) so.fine
@@ -216,6 +226,7 @@ module _ (file : List ℕ) (key : ℕ) (formed : Formed first_buckets (state_of 
             reached = rw (sym e ∙ to) rest;
             room = omega arith;
             few = omega arith;
+            told = told;
             whole = so.whole ∙ ap (λ (n : ℕ). noted walk ++ route_from first_buckets (state_of file) key n a) again
                 ∙ ap (λ (l : List ℕ). noted walk ++ l)
                 (route_sent first_buckets (state_of file) key (so.most - 1) a leaves)
@@ -316,4 +327,4 @@ walked_way {file} {key} {start} {walk} {a} {place} {r} image es =
 -- a walk that stopped says nothing of a bucket and a place
 pub stopped_any : {file : List ℕ} {key : ℕ} {way : List ℕ} {walk : Walk} {a place : ℕ}
     → Walked file key way walk a place 7 → {b k : ℕ} → Walked file key way walk b k 7
-stopped_any w = record { few = w.few; is = w.is; met = w.met; ended = λ e. absurd (omega (arith, e)) }
+stopped_any w = record { few = w.few; told = w.told; is = w.is; met = w.met; ended = λ e. absurd (omega (arith, e)) }

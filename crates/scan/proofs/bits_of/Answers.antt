@@ -7,4 +7,4 @@ pub returns-then-place-notes : goal.returns-then-place-notes
 returns-then-place-notes c = search noted_bits
 
 pub match_bits-requires : goal.match_bits-requires
-match_bits-requires c = (search rules, search rules, search noted_sound)
+match_bits-requires c = (search rules, search noted_sound)

@@ -1,9 +1,7 @@
 -- `scan::first_unsound`: the lowest one where the client believes in it; otherwise the best of those that are left is
 -- the best of all, turn by turn.
-use Rattle.std.proofs.Common.{rules}
 use Rattle.file.specs.File.Region.{known_below}
 use Rattle.scan.specs.Scan.Unsound.{searching_start, searching_next, searching_done, lowest_first}
-use Rattle.scan.specs.Scan.Unsound.{lowest_room}
 use Rattle.scan.specs.Scan.Unsound.{believed_some}
 use Rattle.scan.specs.Scan.Way.{starting_image_room}
 use Rattle.scan.proofs.first_unsound.Goals as goal
@@ -18,7 +16,7 @@ pub loop-next-init : goal.loop-next-init
 loop-next-init c = search searching_start
 
 pub better-best-requires : goal.better-best-requires
-better-best-requires c = (search rules, search known_below, search believed_some)
+better-best-requires c = (search known_below, search believed_some)
 
 pub loop-next-preserved : goal.loop-next-preserved
 loop-next-preserved c = search searching_next

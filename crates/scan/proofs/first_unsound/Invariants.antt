@@ -1,8 +1,7 @@
 -- `scan::first_unsound`: the lowest one where the client believes in it; otherwise the best of those that are left is
 -- the best of all, turn by turn.
-use Prim.Native.Nat.{◌-◌}
 use Rattle.scan.specs.Scan.Unsound.{Searching}
 use Rattle.scan.proofs.first_unsound.Given as goal
 
 abbrev pub invariant-loop-next : goal.invariant-loop-next
-invariant-loop-next l = Searching l.file l.believed l.lowest l.best l.next
+invariant-loop-next l = Searching l.headed.file.now l.believed l.lowest l.best l.next

@@ -10,13 +10,13 @@ pub loop-bucket-init : goal.loop-bucket-init
 loop-bucket-init c = (refl, search tally_none)
 
 pub bucket_sound-requires : goal.bucket_sound-requires
-bucket_sound-requires c = (search rules, search known_below)
+bucket_sound-requires c = search known_below
 
 pub returns-then-not-bucket_sound : goal.returns-then-not-bucket_sound
 returns-then-not-bucket_sound c = search tally_stop
 
 pub match_bits-matching-requires : goal.match_bits-matching-requires
-match_bits-matching-requires c = (search rules, search known_below, search tally_sound)
+match_bits-matching-requires c = (search known_below, search tally_sound)
 
 pub overflow_add-matches : goal.overflow_add-matches
 overflow_add-matches c = record { fits = search tally_few }

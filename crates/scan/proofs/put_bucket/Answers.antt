@@ -14,37 +14,37 @@ pub loop-left-init : goal.loop-left-init
 loop-left-init c = search fill_none
 
 pub overflow_cast-found : goal.overflow_cast-found
-overflow_cast-found c = let short = keys_few c.requires.0 c.args.bucket c.requires.2 in
+overflow_cast-found c = let short = keys_few c.args.headed.now.known c.args.bucket c.requires.1 in
     omega (arith, short, fill_within c.loop-left.invariant short c.loop-left-test.true)
 
 pub overflow_add-found : goal.overflow_add-found
-overflow_add-found c = let short = keys_few c.requires.0 c.args.bucket c.requires.2 in
+overflow_add-found c = let short = keys_few c.args.headed.now.known c.args.bucket c.requires.1 in
     record { fits = omega (arith, short, fill_within c.loop-left.invariant short c.loop-left-test.true) }
 
 pub key_in-requires : goal.key_in-requires
-key_in-requires c = let within = fill_within c.loop-left.invariant (keys_few c.requires.0 c.args.bucket c.requires.2)
-    c.loop-left-test.true in
-    (c.requires.0, c.requires.1, c.requires.2, omega (arith, within, keys_in_count c.args.file.now c.args.bucket))
+key_in-requires c = let short = keys_few c.args.headed.now.known c.args.bucket c.requires.1 in
+    let within = fill_within c.loop-left.invariant short c.loop-left-test.true in
+    (c.requires.0, c.requires.1, omega (arith, within, keys_in_count c.args.headed.now.file.now c.args.bucket))
 
 pub bounds-matches-filled : goal.bounds-matches-filled
 bounds-matches-filled c = search (fill_fits, keys_few)
 
 pub overflow_cast-left : goal.overflow_cast-left
-overflow_cast-left c = let short = keys_few c.requires.0 c.args.bucket c.requires.2 in
+overflow_cast-left c = let short = keys_few c.args.headed.now.known c.args.bucket c.requires.1 in
     omega (arith, short, fill_within c.loop-left.invariant short c.loop-left-test.true)
 
 pub overflow_shr-left : goal.overflow_shr-left
-overflow_shr-left c = let short = keys_few c.requires.0 c.args.bucket c.requires.2 in
+overflow_shr-left c = let short = keys_few c.args.headed.now.known c.args.bucket c.requires.1 in
     omega (arith, short, fill_within c.loop-left.invariant short c.loop-left-test.true)
 
 pub overflow_add-slot : goal.overflow_add-slot
-overflow_add-slot c = let short = keys_few c.requires.0 c.args.bucket c.requires.2 in
+overflow_add-slot c = let short = keys_few c.args.headed.now.known c.args.bucket c.requires.1 in
     record { fits = omega (arith, short, fill_within c.loop-left.invariant short c.loop-left-test.true) }
 
 pub loop-left-smaller : goal.loop-left-smaller
 loop-left-smaller c = omega (
   arith,
-  fill_within c.loop-left.invariant (keys_few c.requires.0 c.args.bucket c.requires.2)
+  fill_within c.loop-left.invariant (keys_few c.args.headed.now.known c.args.bucket c.requires.1)
       c.loop-left-test.true,
 )
 
@@ -52,12 +52,12 @@ pub loop-left-preserved : goal.loop-left-preserved
 loop-left-preserved c = let a = c.args in
     let l = c.loop-left in
     let some = c.loop-left-test.true in
-    let short = keys_few c.requires.0 a.bucket c.requires.2 in
+    let short = keys_few a.headed.now.known a.bucket c.requires.1 in
     let k = l.slot + count_trailing_zeros 64 l.left in
-    let used : k < count_of (region_of a.file.now a.bucket) =
-    omega (arith, fill_within l.invariant short some, keys_in_count a.file.now a.bucket) in
-    fill_more l.invariant short some c.requires.4 c.key_in.result
-    (c.key_in.ensures ∙ key_of a.file.now a.bucket k used)
+    let used : k < count_of (region_of a.headed.now.file.now a.bucket) =
+    omega (arith, fill_within l.invariant short some, keys_in_count a.headed.now.file.now a.bucket) in
+    fill_more l.invariant short some c.requires.3 c.key_in.result
+    (c.key_in.ensures ∙ key_of a.headed.now.file.now a.bucket k used)
 
 pub returns : goal.returns
 returns c = fill_done c.loop-left.invariant c.loop-left-test.false

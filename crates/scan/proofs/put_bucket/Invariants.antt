@@ -8,8 +8,8 @@ use Rattle.scan.proofs.put_bucket.Given as goal
 
 abbrev pub invariant-loop-left : goal.invariant-loop-left
 invariant-loop-left l = Filled
-    (keys_in l.file l.bucket) l.bits l.from l.initial.matches l.left l.slot l.filled l.matches
+    (keys_in l.headed.file.now l.bucket) l.bits l.from l.initial.matches l.left l.slot l.filled l.matches
 
 abbrev pub decreases-loop-left : goal.decreases-loop-left
-decreases-loop-left l = length (keys_in l.file l.bucket)
+decreases-loop-left l = length (keys_in l.headed.file.now l.bucket)
     - l.slot

@@ -15,7 +15,7 @@ pub slice_bounds-put_matches-end-2 : goal.slice_bounds-put_matches-end-2
 slice_bounds-put_matches-end-2 c = search starting_cut
 
 pub put_matches-requires : goal.put_matches-requires
-put_matches-requires c = (search rules, search starting_way, search rules, search starting_room)
+put_matches-requires c = (search starting_way, search rules, search starting_room)
 
 pub returns : goal.returns
 returns c = (search starting_count, search starting_written, search starting_matches)

@@ -10,11 +10,11 @@ pub loop-visit-init : goal.loop-visit-init
 loop-visit-init c = search write_none
 
 pub bits_of-bits-requires : goal.bits_of-bits-requires
-bits_of-bits-requires c = (search rules, search way_exists, search rules)
+bits_of-bits-requires c = (search way_exists, search rules)
 
 pub put_bucket-filled-requires : goal.put_bucket-filled-requires
 put_bucket-filled-requires c =
-    (search rules, search way_exists, search (noted_sound, way_exists), search write_few, search write_room)
+    (search way_exists, search (noted_sound, way_exists), search write_few, search write_room)
 
 pub loop-visit-preserved : goal.loop-visit-preserved
 loop-visit-preserved c = search write_more

@@ -6,8 +6,8 @@ use Rattle.upkeep.proofs.check.Goals as goal
 pub returns-in_default : goal.returns-in_default
 returns-in_default c = search (check_header, c.in_default.ensures)
 
-pub lowest_unsound-requires : goal.lowest_unsound-requires
-lowest_unsound-requires c = search (known, c.in-Some.ensures)
+pub invariant_of-lowest_unsound : goal.invariant_of-lowest_unsound
+invariant_of-lowest_unsound c = search (known, c.in-Some.ensures)
 
 pub returns-in-Some-lowest_unsound : goal.returns-in-Some-lowest_unsound
 returns-in-Some-lowest_unsound c = search (check_region, c.in-Some.ensures, c.in-Some-lowest_unsound.ensures)

@@ -14,4 +14,6 @@ pub loop-region-preserved : goal.loop-region-preserved
 loop-region-preserved c = search lower_more
 
 pub returns-clause-none : goal.returns-clause-none
-returns-clause-none c = omega (arith, lower_end c.args.file.now c.requires c.loop-region.region c.loop-region.invariant (omega arith))
+returns-clause-none c = let h = c.args.headed.now in
+    let l = c.loop-region in
+    omega (arith, lower_end h.file.now h.known l.region l.invariant (omega arith))

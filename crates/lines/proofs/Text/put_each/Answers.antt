@@ -2,7 +2,6 @@
 use Rattle.std.proofs.Common.{rules}
 use Rattle.lines.specs.Lines.Written.{converted_room, converted}
 use Rattle.lines.specs.Lines.Written.{each_start, separator_room, each_number_room, each_next}
-use Rattle.lines.specs.Lines.Written.{each_wrote}
 use Rattle.lines.proofs.Text.put_each.Goals as goal
 
 pub loop-number-init : goal.loop-number-init
@@ -16,6 +15,3 @@ put_number-requires c = search (each_number_room, converted_room)
 
 pub loop-number-preserved : goal.loop-number-preserved
 loop-number-preserved c = search (rules, each_next, converted)
-
-pub returns : goal.returns
-returns c = search (rules, each_wrote)

@@ -1,6 +1,6 @@
--- `load::insert_refusal` asks for the key, then for a slot.
-use Rattle.load.specs.Load.Own.{at_held, at_full, at_free}
-use Rattle.load.proofs.insert_refusal.Goals as goal
+-- `ride::insert_refusal` asks for the key, then for a slot.
+use Rattle.ride.specs.Call.Own.{at_held, at_full, at_free}
+use Rattle.ride.proofs.insert_refusal.Goals as goal
 
 pub returns-then-place-count : goal.returns-then-place-count
 returns-then-place-count c = search at_held
