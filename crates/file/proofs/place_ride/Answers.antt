@@ -2,12 +2,8 @@
 use Rattle.layout.specs.Bytes.{Bytes}
 use Rattle.file.specs.File.Write.{ride_lent}
 use Rattle.bucket.specs.Region.{Whole}
-use Rattle.file.specs.File.Region.{known_fits, known_there}
 use Rattle.std.proofs.Common.{rules, ℕ, get_or, Fits, w8}
 use Rattle.file.proofs.place_ride.Goals as goal
-
-pub slice_bounds-place-end : goal.slice_bounds-place-end
-slice_bounds-place-end c = search (known_fits, known_there)
 
 pub returns : goal.returns
 returns c =

@@ -1,6 +1,5 @@
 -- `growth::split_bucket` judges bucket n; what passes goes on to the new region.
-use Rattle.file.specs.File.Split.{old_exists, split_sound, split_bad}
-use Rattle.std.proofs.Common.{rules}
+use Rattle.file.specs.File.Split.{old_exists, split_bad}
 use Rattle.growth.proofs.split_bucket.Goals as goal
 
 pub bucket_sound-requires : goal.bucket_sound-requires
@@ -8,6 +7,3 @@ bucket_sound-requires c = search old_exists
 
 pub returns-then-not-bucket_sound : goal.returns-then-not-bucket_sound
 returns-then-not-bucket_sound c = search split_bad
-
-pub split_into-requires : goal.split_into-requires
-split_into-requires c = (search rules, search rules, search rules, search rules, search split_sound)

@@ -5,7 +5,7 @@ use Rattle.layout.specs.Replies.Refused.{number_some}
 use Rattle.load.specs.Load.{controlled}
 use Rattle.ride.specs.Call.{placed}
 use Rattle.ride.specs.Call.Replied.{both_fit, unfit_answer, unfit_payload}
-use Rattle.load.specs.Load.Ways.{load_unfit, load_unranged, ranged_low, load_stopped, load_reached, load_walked}
+use Rattle.load.specs.Load.Ways.{load_unfit, load_unranged, load_stopped, load_reached, load_walked}
 use Rattle.load.proofs.insert_split.Goals as goal
 
 pub returns-in_default : goal.returns-in_default
@@ -17,9 +17,6 @@ returns-in_default-as_mut_array c = search (load_unfit, unfit_answer, c.in_defau
 pub returns-then-not-ranged : goal.returns-then-not-ranged
 returns-then-not-ranged c = rw c.refuse.ensures.0
     (search (load_unranged, both_fit, c.in-Some.ensures, c.in-Some-as_mut_array.ensures))
-
-pub finish-requires : goal.finish-requires
-finish-requires c = (search ranged_low, search c.in-Ok.ensures)
 
 pub returns-in-Ok : goal.returns-in-Ok
 returns-in-Ok c = let a = c.args in

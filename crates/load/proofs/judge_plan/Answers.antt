@@ -1,10 +1,6 @@
 -- `load::judge_plan` judges the regions of a split that is to be done.
-use Rattle.load.specs.Load.Regions.{regions_not_due, regions_no_room, regions_done, room_done}
-use Rattle.std.proofs.Common.{rules}
+use Rattle.load.specs.Load.Regions.{regions_not_due, regions_no_room, regions_done}
 use Rattle.load.proofs.judge_plan.Goals as goal
-
-pub judge_regions-requires : goal.judge_regions-requires
-judge_regions-requires c = (search room_done, search rules)
 
 pub returns-in-Done : goal.returns-in-Done
 returns-in-Done c = search regions_done

@@ -1,9 +1,9 @@
 -- At the key's own bucket: refused there, stopped by a region of the split, or placed, and divided if that is decided.
-use Rattle.std.specs.Prelude.{ℕ, ◌+◌, ◌≤◌, ◌<◌, ◌≡◌, Bool, true, false, cond, leb, ltb}
+use Rattle.std.specs.Prelude.{ℕ, ◌+◌, ◌<◌, ◌≡◌, true, false}
 use Rattle.std.proofs.Math.Path.{refl, sym, ap}
-use Rattle.std.proofs.Common.{subst, ◌∙◌, arith}
+use Rattle.std.proofs.Common.{subst, ◌∙◌}
 use mathlib.Core.List.{List}
-use borrow.Author.Tests.{lt-ltb, le-ltb, eq-eqb, ne_eqb, le-leb, lt-leb, leb-false}
+use borrow.Author.Tests.{eq-eqb, ne_eqb}
 use Rattle.address.specs.Limits.{first_buckets, no_bucket}
 use Rattle.address.specs.declared.Image.{Image}
 use Rattle.address.specs.Rules.{splitting, newborn}

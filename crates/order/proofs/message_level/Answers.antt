@@ -3,10 +3,6 @@ use native.Mathlib.Omega.{arith}
 use Rattle.address.specs.Rules.Order.{told_digits}
 use Rattle.order.proofs.message_level.Goals as goal
 
-pub overflow_sub-result : goal.overflow_sub-result
-overflow_sub-result c = (told_digits c.args.image c.args.bucket (omega arith)
-    (omega arith)).0
-
 pub returns : goal.returns
 returns c = (told_digits c.args.image c.args.bucket (omega arith)
     (omega arith)).1

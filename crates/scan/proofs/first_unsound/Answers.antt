@@ -1,7 +1,7 @@
 -- `scan::first_unsound`: the lowest one where the client believes in it; otherwise the best of those that are left is
 -- the best of all, turn by turn.
 use Rattle.file.specs.File.Region.{known_below}
-use Rattle.scan.specs.Scan.Unsound.{searching_start, searching_next, searching_done, lowest_first}
+use Rattle.scan.specs.Scan.Unsound.{searching_next, searching_done, lowest_first}
 use Rattle.scan.specs.Scan.Unsound.{believed_some}
 use Rattle.scan.specs.Scan.Way.{starting_image_room}
 use Rattle.scan.proofs.first_unsound.Goals as goal
@@ -11,9 +11,6 @@ buckets-believed-requires c = search starting_image_room
 
 pub returns-then-lowest-believed : goal.returns-then-lowest-believed
 returns-then-lowest-believed c = search lowest_first
-
-pub loop-next-init : goal.loop-next-init
-loop-next-init c = search searching_start
 
 pub better-best-requires : goal.better-best-requires
 better-best-requires c = (search known_below, search believed_some)

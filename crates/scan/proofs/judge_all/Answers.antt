@@ -1,13 +1,9 @@
 -- `scan::judge_all`: the buckets before are sound and noted, and their matches and those of the buckets that are left
 -- are all; it ends at the first unsound bucket.
 use Rattle.std.proofs.Common.{rules}
-use mathlib.Core.Path.{refl}
 use Rattle.file.specs.File.Region.{known_below}
-use Rattle.scan.specs.Scan.Tally.{tally_none, tally_stop, tally_sound, tally_few, tally_more, tally_done}
+use Rattle.scan.specs.Scan.Tally.{tally_stop, tally_sound, tally_few, tally_more, tally_done}
 use Rattle.scan.proofs.judge_all.Goals as goal
-
-pub loop-bucket-init : goal.loop-bucket-init
-loop-bucket-init c = (refl, search tally_none)
 
 pub bucket_sound-requires : goal.bucket_sound-requires
 bucket_sound-requires c = search known_below

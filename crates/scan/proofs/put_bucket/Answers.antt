@@ -6,16 +6,9 @@ use native.Mathlib.Omega.{arith}
 use lib.Count.{count_trailing_zeros}
 use Rattle.bucket.specs.Region.{count_of}
 use Rattle.file.specs.File.{region_of}
-use Rattle.scan.specs.Scan.Fill.{fill_none, fill_within, fill_fits, fill_more, fill_done}
+use Rattle.scan.specs.Scan.Fill.{fill_within, fill_fits, fill_more, fill_done}
 use Rattle.scan.specs.Scan.Tally.{keys_in_count, keys_few, key_of}
 use Rattle.scan.proofs.put_bucket.Goals as goal
-
-pub loop-left-init : goal.loop-left-init
-loop-left-init c = search fill_none
-
-pub overflow_cast-found : goal.overflow_cast-found
-overflow_cast-found c = let short = keys_few c.args.headed.now.known c.args.bucket c.requires.1 in
-    omega (arith, short, fill_within c.loop-left.invariant short c.loop-left-test.true)
 
 pub overflow_add-found : goal.overflow_add-found
 overflow_add-found c = let short = keys_few c.args.headed.now.known c.args.bucket c.requires.1 in
@@ -29,24 +22,9 @@ key_in-requires c = let short = keys_few c.args.headed.now.known c.args.bucket c
 pub bounds-matches-filled : goal.bounds-matches-filled
 bounds-matches-filled c = search (fill_fits, keys_few)
 
-pub overflow_cast-left : goal.overflow_cast-left
-overflow_cast-left c = let short = keys_few c.args.headed.now.known c.args.bucket c.requires.1 in
-    omega (arith, short, fill_within c.loop-left.invariant short c.loop-left-test.true)
-
-pub overflow_shr-left : goal.overflow_shr-left
-overflow_shr-left c = let short = keys_few c.args.headed.now.known c.args.bucket c.requires.1 in
-    omega (arith, short, fill_within c.loop-left.invariant short c.loop-left-test.true)
-
 pub overflow_add-slot : goal.overflow_add-slot
 overflow_add-slot c = let short = keys_few c.args.headed.now.known c.args.bucket c.requires.1 in
     record { fits = omega (arith, short, fill_within c.loop-left.invariant short c.loop-left-test.true) }
-
-pub loop-left-smaller : goal.loop-left-smaller
-loop-left-smaller c = omega (
-  arith,
-  fill_within c.loop-left.invariant (keys_few c.args.headed.now.known c.args.bucket c.requires.1)
-      c.loop-left-test.true,
-)
 
 pub loop-left-preserved : goal.loop-left-preserved
 loop-left-preserved c = let a = c.args in

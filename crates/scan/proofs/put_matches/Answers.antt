@@ -1,16 +1,9 @@
 -- `scan::put_matches`: the matches of the buckets that are left, written behind those that stand there, make the whole
 -- write.
-use Rattle.std.proofs.Common.{rules}
-use Rattle.scan.specs.Scan.Fill.{write_none, write_few, write_room, write_more, write_done}
+use Rattle.scan.specs.Scan.Fill.{write_few, write_room, write_more, write_done}
 use Rattle.scan.specs.Scan.Notes.{noted_sound}
 use Rattle.scan.specs.Scan.Way.{way_exists}
 use Rattle.scan.proofs.put_matches.Goals as goal
-
-pub loop-visit-init : goal.loop-visit-init
-loop-visit-init c = search write_none
-
-pub bits_of-bits-requires : goal.bits_of-bits-requires
-bits_of-bits-requires c = (search way_exists, search rules)
 
 pub put_bucket-filled-requires : goal.put_bucket-filled-requires
 put_bucket-filled-requires c =

@@ -1,9 +1,6 @@
 -- `upkeep::put_file` writes zeros, the header over them and the first bucket's region: the created file.
-use Rattle.file.specs.File.Create.{create_room, created_written}
+use Rattle.file.specs.File.Create.{created_written}
 use Rattle.upkeep.proofs.put_file.Goals as goal
-
-pub slice_bounds-renew-end : goal.slice_bounds-renew-end
-slice_bounds-renew-end c = search create_room
 
 pub returns : goal.returns
 returns c = let a = c.args in
