@@ -25,6 +25,7 @@ fn entry(count: usize, place: usize, bucket: u32) -> u64
 
 // The first eight bytes of an answer block as one number: the reply, the count and the route's entries.
 fn start_of_block(reply: u8, walk: Walk) -> u64
+    requires { walk.count ≤ 3 }
     ensures { le_bytes 8 result ≡ start_bytes reply (noted walk) }
 {
     let count = walk.count;
@@ -44,6 +45,7 @@ fn put_count(answer: &mut [u8; BLOCK], count: u8)
 
 // Writes an answer block without a payload, as three numbers of eight bytes.
 pub fn put_block(answer: &mut [u8; BLOCK], reply: u8, walk: Walk, count: u8)
+    requires { walk.count ≤ 3 }
     ensures { answer.new ≡ block reply (noted walk) count no_payload }
 {
     layout::write::<8>(answer, 0, start_of_block(reply, walk));

@@ -56,8 +56,9 @@ pub enum Growth {
     NoSpace,
 }
 
-// Writes the block of a call that is refused on its way, and passes the refusal on.
+// Writes the block of a call that is refused, with the buckets met by then, and passes the refusal on.
 fn refuse(answer: &mut [u8; BLOCK], stop: Stop) -> Fault
+    requires { stop.walk.count ≤ 3 }
     ensures { (result ≡ Plain stop.refused)
         × (answer.new ≡ block (number_of stop.refused) (noted stop.walk) 0 no_payload) }
 {

@@ -26,7 +26,7 @@ const ABSENT: u8 = 1;
 
 // Writes the block of a search that found its key, with the payload in the key's slot.
 fn put_found(headed: &Headed, bucket: u32, place: usize, walk: Walk, answer: &mut [u8; BLOCK])
-    requires { (bucket < buckets_of headed.now.file.now) × (place < slots_of headed.now.file.now) }
+    requires { (walk.count ≤ 3) × (bucket < buckets_of headed.now.file.now) × (place < slots_of headed.now.file.now) }
     ensures { answer.new
         ≡ block 0 (noted walk) 0 (ride_at (region_of headed.now.file.now bucket) place).payload }
 {
@@ -63,8 +63,9 @@ fn finish_search(
     false
 }
 
-// Writes the block of a call that is refused on its way, and passes the refusal on.
+// Writes the block of a call that is refused, with the buckets met by then, and passes the refusal on.
 pub fn refuse(answer: &mut [u8; BLOCK], stop: Stop) -> Refused
+    requires { stop.walk.count ≤ 3 }
     ensures { (result ≡ stop.refused)
         × (answer.new ≡ block (number stop.refused) (noted stop.walk) 0 no_payload) }
 {
@@ -103,7 +104,7 @@ pub fn put_placed(
     walk: Walk,
     answer: &mut [u8; BLOCK],
 )
-    requires { Known file.old header × (bucket < buckets_of file.old)
+    requires { (walk.count ≤ 3) × Known file.old header × (bucket < buckets_of file.old)
         × (bucket_sound_in file.old bucket ≡ true)
         × (count ≡ count_of (region_of file.old bucket)) × (count < header.slots) }
     ensures { (file.new
@@ -136,7 +137,7 @@ pub fn turn_away(
     reached: Reached,
     refused: Refused,
 ) -> Refused
-    requires { (8 * client + 8 ≤ length table.old)
+    requires { (reached.walk.count ≤ 3) × (8 * client + 8 ≤ length table.old)
         × (record_sound table.old client ≡ true) × (reached.image ≡ image_of table.old client)
         × ImageRoom first_buckets reached.header.state × (first_met reached.walk ≤ most_buckets)
         × ((adjusted_by reached.header.state reached.image reached.walk).level < 256)

@@ -4,7 +4,7 @@ use Rattle.ride.proofs.Call.Replied.{placed_there}
 use Rattle.ride.proofs.place.Goals as goal
 
 pub put_placed-requires : goal.put_placed-requires
-put_placed-requires c = (search, search, search, search, search slot_free)
+put_placed-requires c = (search, search, search, search, search, search slot_free)
 
 pub returns : goal.returns
 returns c = (search placed_there, search)
