@@ -48,43 +48,25 @@ pub record Loaded : Type 0 where
   pub table : List ℕ
   pub file : List ℕ
 
+-- Its parts, in this order.
+abbrev pub loaded : ℕ → Control → ℕ → ℕ → List ℕ → List ℕ → List ℕ → Loaded
+loaded answer split old new block table file = record {
+  answer = answer;
+  split = split;
+  old = old;
+  new = new;
+  block = block;
+  table = table;
+  file = file;
+}
+
+-- By the call's result: what followed an insert, or the refusal.
 abbrev pub leaving : Result Growth Fault → List ℕ → List ℕ → List ℕ → Loaded
-leaving (Ok NotNeeded) left after next = record {
-  answer = 0;
-  split = NotDue;
-  old = no_bucket;
-  new = no_bucket;
-  block = left;
-  table = after;
-  file = next;
-}
-leaving (Ok (Split divided)) left after next = record {
-  answer = 0;
-  split = Done;
-  old = divided.old;
-  new = divided.new;
-  block = left;
-  table = after;
-  file = next;
-}
-leaving (Ok NoSpace) left after next = record {
-  answer = 0;
-  split = NoRoom;
-  old = no_bucket;
-  new = no_bucket;
-  block = left;
-  table = after;
-  file = next;
-}
-leaving (Err fault) left after next = record {
-  answer = fault_number fault;
-  split = NotDue;
-  old = fault_region fault;
-  new = no_bucket;
-  block = left;
-  table = after;
-  file = next;
-}
+leaving (Ok NotNeeded) block table file = loaded 0 NotDue no_bucket no_bucket block table file
+leaving (Ok (Split divided)) block table file = loaded 0 Done divided.old divided.new block table file
+leaving (Ok NoSpace) block table file = loaded 0 NoRoom no_bucket no_bucket block table file
+leaving (Err fault) block table file =
+    loaded (fault_number fault) NotDue (fault_region fault) no_bucket block table file
 
 -- An insert alone, refused or not: 65,535 twice as the split's answer.
 abbrev pub alone : Control → Outcome → Loaded
