@@ -106,8 +106,8 @@ enum lhstar_reply {
 
 /*
  * No call takes more bytes of stack, its arguments and its return address included. Measured by
- * tests/stack.c: create 64, join 16, insert 912, search 896, forwards 16, split 816, insert_split
- * 976, scan 15392, check 848, view 752, parent 16. The binding of memset by a dynamic linker, once
+ * tests/stack.c: create 64, join 16, insert 928, search 896, forwards 16, split 848, insert_split
+ * 1008, scan 15424, check 832, view 752, parent 16. The binding of memset by a dynamic linker, once
  * in a program, is not counted.
  */
 #define LHSTAR_STACK_BYTES 16384

@@ -91,20 +91,25 @@ fn command_named(letter: u8, client: u64, number: u64) -> Command
 fn command_of(letter: u8, one: &[u8], two: &[u8]) -> Command
     ensures { result ≡ of_numbers letter one.now two.now }
 {
-    match (read_number(one, MOST), read_number(two, most_after(letter))) {
-        (Some(client), Some(number)) => command_named(letter, client, number),
-        _ => Command::Unknown,
-    }
+    let Some(client) = read_number(one, MOST) else {
+        return Command::Unknown;
+    };
+    let Some(number) = read_number(two, most_after(letter)) else {
+        return Command::Unknown;
+    };
+    command_named(letter, client, number)
 }
 
 // The command that a line is.
 pub fn read_command(line: &[u8]) -> Command
     ensures { result ≡ command_of line.now }
 {
-    let mut fields = line.split(|byte| *byte == b' ');
-    match (fields.next(), fields.next(), fields.next(), fields.next()) {
-        (Some([letter]), None, ..) if *letter == b'G' => Command::Split,
-        (Some([letter]), Some(one), Some(two), None) => command_of(*letter, one, two),
+    match line {
+        [letter] if *letter == b'G' => Command::Split,
+        [letter, gap, fields @ ..] if *letter != b' ' && *gap == b' ' => match find(fields, b' ') {
+            Some(end) => command_of(*letter, &fields[..end], &fields[end + 1..]),
+            None => Command::Unknown,
+        },
         _ => Command::Unknown,
     }
 }

@@ -45,7 +45,7 @@ met_on file table client key = cond (eqb (reply (early file table client) 0) 0)
 
 -- The buckets that a walk has noted, at most three.
 pub noted : Walk → List ℕ
-noted walk = take walk.count walk.met
+noted walk = take walk.count (get_or walk.met 0 0 ∷ get_or walk.met 1 0 ∷ get_or walk.met 2 0 ∷ [])
 
 -- The first bucket of a walk.
 abbrev pub first_met : Walk → ℕ

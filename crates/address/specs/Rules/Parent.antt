@@ -73,3 +73,8 @@ parent_number b {found} {number} e en = en ∙ ap (λ (o : Option ℕ). unwrap_o
 -- no second parent fits
 pub parent_single : (N b o p : ℕ) → o ≡ parent N b → p ≡ parent N b → o ≡ p
 parent_single N b o p eo ep = eo ∙ sym ep
+
+-- nor a second answer of a parent that may be none
+pub found_single : (N b : ℕ) (o p : Option ℕ) → o ≡ cond (ltb b N) None (Some (parent N b))
+    → p ≡ cond (ltb b N) None (Some (parent N b)) → o ≡ p
+found_single N b o p eo ep = eo ∙ sym ep

@@ -41,18 +41,17 @@ none_long = refl
 pub start_bytes : ℕ → List ℕ → List ℕ
 start_bytes r way = (r ∷ length way ∷ []) ++ entry way 0 ++ entry way 1 ++ entry way 2
 
-pub start_found : (r : ℕ) (walk : Walk) → r < 256 → walk.count ≤ 3 → length walk.met ≡ 3
-    → {x y z : ℕ}
+pub start_found : (r : ℕ) (walk : Walk) → r < 256 → walk.count ≤ 3 → {x y z : ℕ}
     → x ≡ shown walk.count 0 (get_or walk.met 0 0) % 65536 → y ≡ shown walk.count 1 (get_or walk.met 1 0) % 65536
     → z ≡ shown walk.count 2 (get_or walk.met 2 0) % 65536
     → le_bytes 8 (r + walk.count * 256 + x * 65536 + y * 4294967296 + z * 281474976710656) ≡ start_bytes r (noted walk)
 unfolding start_bytes entry
-start_found r walk small few long ex ey ez =
+start_found r walk small few ex ey ez =
     (λ i. le_bytes 8 (r + walk.count * 256 + ex i * 65536 + ey i * 4294967296 + ez i * 281474976710656))
     ∙ le_bytes_packed r walk.count _ _ _ small (omega arith)
-    ∙ sym (λ i. (r ∷ noted_length walk few long i ∷ []) ++ le_bytes 2 (noted_first walk few long i)
-    ++ le_bytes 2 (noted_second walk few long i)
-    ++ le_bytes 2 (noted_third walk few long i))
+    ∙ sym (λ i. (r ∷ noted_length walk few i ∷ []) ++ le_bytes 2 (noted_first walk few i)
+    ++ le_bytes 2 (noted_second walk few i)
+    ++ le_bytes 2 (noted_third walk few i))
 
 -- the count and the zeros behind it are two numbers
 pub count_written : (count : ℕ) (answer : List ℕ) → length answer ≡ 24 → count < 256 → {one left : List ℕ}

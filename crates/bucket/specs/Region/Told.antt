@@ -248,15 +248,22 @@ module _ (S j : ℕ) (region : List ℕ) {head : Bool} (is : head ≡ head_sound
           ∙ rw (sym (judged_slots S j own region head n is en fine (slots_formed own region n) refl
           (ap not (slots_none own region n key (sym told ∙ e)))))
 
+      module _ {place : ℕ} (found : judged ≡ Some place) where
+        good : (slots_formed own region n ≡ true) × (place ≡ first_from (λ i. eqb (key_at region i) key) n 0)
+        good = slots_some own region n key place (sym told ∙ found)
+
+        pub place_judged : place ≡ slot_of region key
+        place_judged = good.1 ∙ ap (λ (m : ℕ). first_from (λ i. eqb (key_at region i) key) m 0) en
+            ∙ slot_is region key
+
       pub rest_judged : {place : ℕ} → judged ≡ Some place → {rest : Bool}
           → rest ≡ all_zero (drop (slot_at n) region) → {answer : Option ℕ} → answer ≡ then_some rest place
           → answer ≡ cond (sound_with S j own region) (Some (slot_of region key)) None
-      rest_judged {place} found {rest} clean e =
-          let (good, at) = slots_some own region n key place (sym told ∙ found) in
-          e ∙ some_if rest place
+      rest_judged {place} found {rest} clean e = e ∙ some_if rest place
           ∙ ap₂ (λ (b : Bool) (x : ℕ). cond b (Some x) None)
-          (judged_rest S j own region head n is en fine (slots_formed own region n) refl (ap not good) rest clean)
-          (at ∙ ap (λ (m : ℕ). first_from (λ i. eqb (key_at region i) key) m 0) en ∙ slot_is region key)
+          (judged_rest S j own region head n is en fine (slots_formed own region n) refl (ap not (good found).0) rest
+          clean)
+          (place_judged found)
         where
           some_if : (b : Bool) (x : ℕ) → then_some b x ≡ cond b (Some x) None
           some_if true x = refl

@@ -2,14 +2,14 @@
 use Rattle.commands.specs.Text.Fields.{first_malformed, second_malformed, number_limited, both_numbers}
 use Rattle.commands.proofs.command_of.Goals as goal
 
+pub returns-in_default : goal.returns-in_default
+returns-in_default c = search first_malformed
+
+pub returns-in_default-read_number : goal.returns-in_default-read_number
+returns-in_default-read_number c = search second_malformed
+
 pub command_named-requires : goal.command_named-requires
 command_named-requires c = search number_limited
 
-pub returns-in-Some-Some : goal.returns-in-Some-Some
-returns-in-Some-Some c = search both_numbers
-
-pub returns-in_default : goal.returns-in_default
-returns-in_default c = search second_malformed
-
-pub returns-in_default-2 : goal.returns-in_default-2
-returns-in_default-2 c = search first_malformed
+pub returns : goal.returns
+returns c = search both_numbers

@@ -1,17 +1,22 @@
 -- The fields of a line, one after another as the code meets them, and the command that they make.
 use Rattle.std.specs.Prelude.{ℕ, suc, ◌+◌, ◌-◌, ◌^◌, ◌≤◌, ◌<◌, ◌≡◌, refl, false, cond, ◌&&◌, leb, eqb, length}
-use Rattle.std.specs.Prelude.{Option, Some, None}
-use Rattle.std.proofs.Common.{◌∙◌, add-one, arith, take_all}
+use Rattle.std.specs.Prelude.{Bool, Option, Some, None, HoldsAt, ◌≢◌}
+use Rattle.std.specs.List.{AllWithin}
+use Rattle.std.proofs.Common.{◌∙◌, ap₂, add-one, arith, take_all, drop-drop}
+use Rattle.std.proofs.Math.Logic.{by_cases}
+use Rattle.std.proofs.Math.Decide.{ℕ_discrete}
 use Rattle.std.proofs.Math.Path.{sym, ap}
 use Rattle.std.proofs.Math.Bool.{and-false}
 use mathlib.Core.List.{List, [], ◌∷◌, ◌++◌}
 use borrow.Author.Tests.{eq-eqb, ne_eqb}
 use Rattle.std.proofs.Math.ListN.{get_or, take, drop, length-take, length-drop}
+use Rattle.layout.specs.Bytes.{first_from}
+use Rattle.layout.specs.Bytes.Tests.{first_here, first_later, first_none, first_within}
 use Rattle.lines.specs.Bytes.{space, digit0, digit9, letter_a, letter_g, letter_i, letter_s}
 use Rattle.commands.specs.Text.{all_digits, is_number, number_of, place_of, pieces, named, limit_after, of_numbers}
 use Rattle.commands.specs.Text.{of_fields, command_of}
 use Rattle.commands.specs.Text.Pieces.{some_piece, together, together_pieces, place_within, pieces_first}
-use Rattle.commands.specs.Text.Pieces.{pieces_more, pieces_last}
+use Rattle.commands.specs.Text.Pieces.{pieces_more, pieces_last, place_none, place_found}
 use Rattle.commands.specs.Text.Reading.{number_good, number_bad, number_small}
 use Rattle.commands.specs.declared.Command.{Command}
 use Rattle.commands.specs.declared.Command.TheVariants.{Split, Insert, Search, Scan, Unknown}
@@ -182,3 +187,87 @@ module _ (line : List ℕ) {at : ℕ} (is : at ≡ place_of space line 0) where
             → command ≡ command_of line
         command_numbers within h e = e
             ∙ sym (two_fields line (sym is ∙ first) (omega (arith, some)) end next (omega (arith, h)))
+
+-- where the first space is, by a line's first two bytes
+module _ (line : List ℕ) (some : 1 ≤ length line) where
+  abbrev blank : ℕ → Bool
+  blank k = eqb (get_or line k 0) space
+
+  space_first : get_or line 0 0 ≡ space → place_of space line 0 ≡ 0
+  space_first e = first_here blank (length line) 0 (omega arith) (eq-eqb (get_or line 0 0) space e)
+
+  module _ (letter : get_or line 0 0 ≡ space → ⊥) where
+    space_later : place_of space line 0 ≡ first_from blank (length line - 1) 1
+    space_later = first_later blank (length line) 0 (omega arith) (ne_eqb (get_or line 0 0) space letter)
+
+    space_alone : length line < 2 → place_of space line 0 ≡ 1
+    space_alone h = space_later ∙ first_none blank (length line) 1 (omega arith)
+
+    module _ (more : 2 ≤ length line) where
+      space_second : get_or line 1 0 ≡ space → place_of space line 0 ≡ 1
+      space_second e = space_later
+          ∙ first_here blank (length line) 1 (omega arith) (eq-eqb (get_or line 1 0) space e)
+
+      space_past : (get_or line 1 0 ≡ space → ⊥) → place_of space line 0 ≡ 1 → ⊥
+      space_past e is = omega (
+        arith,
+        is,
+        space_later,
+        first_later blank (length line) 1 (omega arith) (ne_eqb (get_or line 1 0) space e),
+        first_within blank (length line - 2) 2,
+      )
+
+-- and the command of a line by what the code's patterns tell of it, and its search for the second space
+module _ (line : List ℕ) where
+  pub seen_empty : length line < 1 → Unknown ≡ command_of line
+  seen_empty h = command_other line refl (λ e. omega (arith, e, place_within space line 0 (omega arith)))
+
+  pub seen_blank : 1 ≤ length line → get_or line 0 0 ≡ space → Unknown ≡ command_of line
+  seen_blank some e = command_other line refl (λ p. omega (arith, p, space_first line some e))
+
+  module _ (some : 1 ≤ length line) (alone : length line < 2) where
+    pub seen_split : get_or line 0 0 ≡ letter_g → Split ≡ command_of line
+    seen_split e = command_split line refl (space_alone line some (λ s. omega (arith, e, s)) alone) (omega arith) e
+
+    pub seen_letter : (get_or line 0 0 ≡ letter_g → ⊥) → Unknown ≡ command_of line
+    seen_letter e = by_cases (ℕ_discrete (get_or line 0 0) space)
+        (λ s. seen_blank some s)
+        (λ n. command_letter line refl (space_alone line some n alone) (omega arith) e)
+
+  module _ (more : 2 ≤ length line) (letter : get_or line 0 0 ≡ space → ⊥) where
+    pub seen_other : (get_or line 1 0 ≡ space → ⊥) → Unknown ≡ command_of line
+    seen_other e = command_other line refl (space_past line (omega arith) letter more e)
+
+    module _ (gap : get_or line 1 0 ≡ space) where
+      abbrev fields : List ℕ
+      fields = take (length line - 2) (drop 2 line)
+
+      first : place_of space line 0 ≡ 1
+      first = space_second line (omega arith) letter more gap
+
+      pub seen_short : AllWithin (λ x. x ≢ space) fields 0 (length fields) → Unknown ≡ command_of line
+      seen_short none = command_short line refl first (place_within space line 0 (omega arith)) (λ e. omega arith)
+          (length line) (sym (place_none space line 2 more none)) refl
+
+      whole : fields ≡ drop 2 line
+      whole = take_all (length line - 2) (drop 2 line) (omega (arith, length-drop 2 line))
+
+      pub seen_numbers : {end : ℕ} → end < length fields → HoldsAt (λ x. x ≡ space) fields end
+          → AllWithin (λ x. x ≢ space) fields 0 end → {command : Command}
+          → command ≡ of_numbers (get_or line 0 0) (take end fields)
+          (take (length fields - (end + 1)) (drop (end + 1) fields))
+          → command ≡ command_of line
+      seen_numbers {end} few hit none e =
+          let (is, from, inside) = place_found space line 2 more few hit none in
+          command_numbers line refl first (place_within space line 0 (omega arith)) (λ h. omega arith) (2 + end) is
+          (omega arith) (λ h. omega arith) (e ∙ ap₂ (of_numbers (get_or line 0 0)) one two)
+        where
+          one : take end fields ≡ take (2 + end - 2) (drop 2 line)
+          one = ap₂ take (omega arith) whole
+
+          two : take (length fields - (end + 1)) (drop (end + 1) fields)
+              ≡ take (length line - (2 + end + 1)) (drop (2 + end + 1) line)
+          two = ap₂ take
+              (omega (arith, ap length whole, length-drop 2 line))
+              (ap (drop (end + 1)) whole ∙ drop-drop (end + 1) 2 line
+              ∙ ap (λ (k : ℕ). drop k line) (omega arith))
