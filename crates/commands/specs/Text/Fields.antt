@@ -242,15 +242,15 @@ module _ (line : List ℕ) where
       abbrev fields : List ℕ
       fields = take (length line - 2) (drop 2 line)
 
-      first : place_of space line 0 ≡ 1
-      first = space_second line (omega arith) letter more gap
+      first_gap : place_of space line 0 ≡ 1
+      first_gap = space_second line (omega arith) letter more gap
 
       pub seen_short : AllWithin (λ x. x ≢ space) fields 0 (length fields) → Unknown ≡ command_of line
-      seen_short none = command_short line refl first (place_within space line 0 (omega arith)) (λ e. omega arith)
+      seen_short none = command_short line refl first_gap (place_within space line 0 (omega arith)) (λ e. omega arith)
           (length line) (sym (place_none space line 2 more none)) refl
 
-      whole : fields ≡ drop 2 line
-      whole = take_all (length line - 2) (drop 2 line) (omega (arith, length-drop 2 line))
+      rest_whole : fields ≡ drop 2 line
+      rest_whole = take_all (length line - 2) (drop 2 line) (omega (arith, length-drop 2 line))
 
       pub seen_numbers : {end : ℕ} → end < length fields → HoldsAt (λ x. x ≡ space) fields end
           → AllWithin (λ x. x ≢ space) fields 0 end → {command : Command}
@@ -259,15 +259,15 @@ module _ (line : List ℕ) where
           → command ≡ command_of line
       seen_numbers {end} few hit none e =
           let (is, from, inside) = place_found space line 2 more few hit none in
-          command_numbers line refl first (place_within space line 0 (omega arith)) (λ h. omega arith) (2 + end) is
+          command_numbers line refl first_gap (place_within space line 0 (omega arith)) (λ h. omega arith) (2 + end) is
           (omega arith) (λ h. omega arith) (e ∙ ap₂ (of_numbers (get_or line 0 0)) one two)
         where
           one : take end fields ≡ take (2 + end - 2) (drop 2 line)
-          one = ap₂ take (omega arith) whole
+          one = ap₂ take (omega arith) rest_whole
 
           two : take (length fields - (end + 1)) (drop (end + 1) fields)
               ≡ take (length line - (2 + end + 1)) (drop (2 + end + 1) line)
           two = ap₂ take
-              (omega (arith, ap length whole, length-drop 2 line))
-              (ap (drop (end + 1)) whole ∙ drop-drop (end + 1) 2 line
+              (omega (arith, ap length rest_whole, length-drop 2 line))
+              (ap (drop (end + 1)) rest_whole ∙ drop-drop (end + 1) 2 line
               ∙ ap (λ (k : ℕ). drop k line) (omega arith))

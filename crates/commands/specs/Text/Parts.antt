@@ -1,5 +1,5 @@
 -- A line split at its spaces: what std's `split` gives, one call after another, are the pieces; and the command of a
--- line by the fields so given, a law for each way out.
+-- line by the fields so given. `read_command` went by these laws; it goes by those of `Text/Fields.antt` now.
 use Rattle.std.specs.Prelude.{ℕ, ◌≤◌, ◌<◌, ◌≡◌, refl, List, [], ◌∷◌, eqb, length, get_or}
 use Rattle.std.specs.Prelude.{Option, Some, None, MatchOption}
 use Rattle.std.specs.List.{slice_split}
