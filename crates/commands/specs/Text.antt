@@ -3,7 +3,6 @@
 pub mod Decimal
 pub mod Examples
 pub mod Fields
-pub mod Parts
 pub mod Pieces
 pub mod Reading
 pub mod Spelling

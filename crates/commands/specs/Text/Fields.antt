@@ -110,8 +110,7 @@ module _ (letter : ℕ) (one two : List ℕ) {read : Option ℕ} (is : read ≡ 
         both_numbers {client} told e = e
             ∙ sym (numbers_both letter one two client number (sym is ∙ told) (rw (← limit) (sym next ∙ then-told)))
 
-pub long_letter : (first : List ℕ) (fields : List (List ℕ)) → (length first ≡ 1 → ⊥)
-    → of_fields (first ∷ fields) ≡ Unknown
+long_letter : (first : List ℕ) (fields : List (List ℕ)) → (length first ≡ 1 → ⊥) → of_fields (first ∷ fields) ≡ Unknown
 unfolding of_fields
 long_letter [] fields h = refl
 long_letter (x ∷ []) fields h = absurd (h refl)
